@@ -1,0 +1,192 @@
+-- Laws of `leastOn`: available, passing, and no other available value that passes is less. Assumes nothing.
+use mathlib.Core.Path.{_≡_, refl, sym, ap, _∙_}
+use mathlib.Core.Bool.{Bool, true, false, cond, _&&_}
+use mathlib.Core.Logic.{_⊎_, inl, inr, ⊎-elim}
+use Prim.Native.Nat.{ℕ, zero, suc, _+_, _-_, _*_, _/_, _%_, _≤_, _<_}
+use native.Mathlib.Nat.{le-div-iff-mul-le, suc-mul, mul-le-mul-right, le-of-mul-le-mul-right, div-zero, div-add-mod', mod-lt, add-mul, one-mul}
+use native.Mathlib.Omega.{arith}
+use lib.Dec.{leb}
+use borrow.Author.Tests.{leb-true, leb-false, le-leb, lt-leb}
+use Rattle.grid.specs.declared.Found.{Found}
+use Rattle.grid.specs.declared.Found.the-variants.{At, Nothing}
+use Rattle.grid.specs.First.{first}
+use Rattle.grid.specs.Grid.{Available, count, valueAt, leastOn}
+use Rattle.grid.proofs.BoolLaws.{passes-or-fails, not-both, fails, and-left, and-right, and-both}
+use Rattle.grid.proofs.FirstLaws.{FirstAt, first-is, first-none, first-at, first-nothing}
+
+-- m steps are available exactly where they end at or below high
+pub count-within : (low high step m : ℕ) → 0 < step → m < count low high step → low + m * step ≤ high
+unfolding count
+count-within low high step m p h =
+    let e = le-div-iff-mul-le p .0 h in
+    let e′ : m * step + step ≤ high + step - low = rw suc-mul at e in
+    omega arith
+
+pub within-count : (low high step m : ℕ) → 0 < step → low + m * step ≤ high → m < count low high step
+unfolding count
+within-count low high step m p h =
+    le-div-iff-mul-le p .1 (rw suc-mul (omega arith))
+
+le-or-lt : (a b : ℕ) → (a ≤ b) ⊎ (b < a)
+le-or-lt a b = ⊎-elim (λ e. inl (leb-true a b e)) (λ e. inr (leb-false a b e)) (passes-or-fails (leb a b))
+
+module _ (low high step : ℕ) (p : 0 < step) (ok : ℕ → Bool) where
+  -- what a value that was found is: available, passing, the least such
+  pub record Least (x : ℕ) : Type 0 where
+    pub available : Available low high step x
+    pub passes : ok x ≡ true
+    pub least : (y : ℕ) → Available low high step y → ok y ≡ true → x ≤ y
+
+  least-found : (f : Found) (x : ℕ) → first (λ m. ok (low + m * step)) 0 (count low high step) ≡ f → valueAt low step f ≡ At x → Least x
+  unfolding valueAt
+  least-found (At m) x e q =
+      let r = first-at (λ m. ok (low + m * step)) (count low high step) 0 m e in
+      let v : low + m * step ≡ x = cc in
+      record {
+        available =
+            record {
+              steps = m;
+              on-grid = sym v;
+              within = let w = count-within low high step m p (omega (arith, r .below)) in omega arith;
+            };
+        passes = rw (← v) (r .passes);
+        least =
+            λ y a t.
+            ⊎-elim
+            (λ (g : m ≤ a .steps). let k = mul-le-mul-right step g in omega (arith, a .on-grid))
+            (λ (l : a .steps < m).
+            absurd (not-both (rw (a .on-grid) at t) (r .before (a .steps) (omega arith) l)))
+            (le-or-lt m (a .steps));
+      }
+  least-found Nothing x e q = absurd (let z : _≡_ {A = ℕ} 0 1 = cc in omega arith)
+
+  pub leastOn-least : (x : ℕ) → leastOn low high step ok ≡ At x → Least x
+  unfolding leastOn
+  leastOn-least x e = least-found (first (λ m. ok (low + m * step)) 0 (count low high step)) x refl e
+
+  none-found : (f : Found) → first (λ m. ok (low + m * step)) 0 (count low high step) ≡ f → valueAt low step f ≡ Nothing → (y : ℕ) → Available low high step y → ok y ≡ false
+  unfolding valueAt
+  none-found (At m) e q y a = absurd (let z : _≡_ {A = ℕ} 0 1 = cc in omega arith)
+  none-found Nothing e q y a =
+      rw (a .on-grid)
+      (first-nothing (λ m. ok (low + m * step)) (count low high step) 0 e (a .steps) (omega arith)
+      (let w = within-count low high step (a .steps) p (omega (arith, a .on-grid, a .within)) in omega arith))
+
+  pub leastOn-nothing : leastOn low high step ok ≡ Nothing → (y : ℕ) → Available low high step y → ok y ≡ false
+  unfolding leastOn
+  leastOn-nothing e y a = none-found (first (λ m. ok (low + m * step)) 0 (count low high step)) refl e y a
+
+  -- a least passing value is what is found, and where none passes nothing is
+  pub leastOn-is : (x : ℕ) → Least x → leastOn low high step ok ≡ At x
+  leastOn-is x h = by-cases (leastOn low high step ok) refl
+    where
+      by-cases : (f : Found) → leastOn low high step ok ≡ f → leastOn low high step ok ≡ At x
+      by-cases (At y) e =
+          let r = leastOn-least y e in
+          let a = r .least x (h .available) (h .passes) in
+          let b = h .least y (r .available) (r .passes) in
+          e ∙ ap At (omega arith)
+      by-cases Nothing e = absurd (not-both (h .passes) (leastOn-nothing e x (h .available)))
+
+  pub leastOn-none : ((y : ℕ) → Available low high step y → ok y ≡ false) → leastOn low high step ok ≡ Nothing
+  leastOn-none h = by-cases (leastOn low high step ok) refl
+    where
+      by-cases : (f : Found) → leastOn low high step ok ≡ f → leastOn low high step ok ≡ Nothing
+      by-cases (At y) e =
+          let r = leastOn-least y e in
+          absurd (not-both (r .passes) (h y (r .available)))
+      by-cases Nothing e = e
+
+-- where the step is 0 nothing is available
+pub leastOn-no-step : (low high step : ℕ) (ok : ℕ → Bool) → step ≡ 0 → leastOn low high step ok ≡ Nothing
+unfolding leastOn count first valueAt
+leastOn-no-step low high step ok e = rw (e, div-zero)
+
+-- a value that was found counts only where it passes one test more
+abbrev pub capped : (ℕ → Bool) → Found → Found
+capped up (At x) = cond (up x) (At x) Nothing
+capped up Nothing = Nothing
+
+-- A test that passes from b on and then only up to some value: the least value from b on decides.
+pub leastOn-capped :
+    (low high step : ℕ) → 0 < step → (ok up : ℕ → Bool) (b : ℕ) → ((x : ℕ) → Available low high step x → ok x ≡ (leb b x && up x)) →
+    ((x y : ℕ) → x ≤ y → up y ≡ true → up x ≡ true) → leastOn low high step ok ≡ capped up (leastOn low high step (leb b))
+leastOn-capped low high step p ok up b same down = by-cases (leastOn low high step (leb b)) refl
+  where
+    refused : (x : ℕ) → Least low high step p (leb b) x → up x ≡ false → (y : ℕ) → Available low high step y → ok y ≡ false
+    refused x r u y a =
+        fails (ok y)
+        (λ t.
+        let t′ : (leb b y && up y) ≡ true = sym (same y a) ∙ t in
+        not-both (down x y (r .least y a (and-left (leb b y) (up y) t′)) (and-right (leb b y) (up y) t′)) u)
+
+    by-cases : (f : Found) → leastOn low high step (leb b) ≡ f → leastOn low high step ok ≡ capped up f
+    by-cases (At x) e =
+        let r = leastOn-least low high step p (leb b) x e in
+        ⊎-elim
+        (λ (u : up x ≡ true).
+        rw u
+        (leastOn-is low high step p ok x
+        (record {
+          available = r .available;
+          passes = same x (r .available) ∙ and-both (r .passes) u;
+          least = λ y a t. r .least y a (and-left (leb b y) (up y) (sym (same y a) ∙ t));
+        })))
+        (λ (u : up x ≡ false). rw u (leastOn-none low high step p ok (refused x r u)))
+        (passes-or-fails (up x))
+    by-cases Nothing e =
+        leastOn-none low high step p ok
+        (λ y a.
+        fails (ok y)
+        (λ t. not-both (and-left (leb b y) (up y) (sym (same y a) ∙ t)) (leastOn-nothing low high step p (leb b) e y a)))
+
+-- The least value at or above a bound, by where the bound stands.
+module _ (low high step b : ℕ) (p : 0 < step) where
+  pub leastOn-from-low : low ≤ high → b ≤ low → leastOn low high step (leb b) ≡ At low
+  leastOn-from-low h l =
+      leastOn-is low high step p (leb b) low
+      (record {
+        available = record { steps = 0; on-grid = rw (native.Mathlib.Nat.zero-mul, native.Mathlib.Nat.add-zero); within = h };
+        passes = le-leb b low l;
+        least = λ y a t. omega (arith, a .on-grid);
+      })
+
+  pub leastOn-past-high : high < low ⊎ high < b → leastOn low high step (leb b) ≡ Nothing
+  leastOn-past-high h =
+      leastOn-none low high step p (leb b)
+      (λ y a.
+      fails (leb b y)
+      (λ t.
+      let g = leb-true b y t in
+      ⊎-elim (λ l. omega (arith, a .on-grid, a .within)) (λ l. omega (arith, a .within)) h))
+
+  -- x stands on the grid, at or above the bound and less than a step past it
+  module _ (m x : ℕ) (on : x ≡ low + m * step) (up : b ≤ x) (near : x < b + step) where
+    nearest : (y : ℕ) → Available low high step y → leb b y ≡ true → x ≤ y
+    nearest y a t =
+        let g = leb-true b y t in
+        ⊎-elim
+        (λ (l : m ≤ a .steps). let k = mul-le-mul-right step l in omega (arith, a .on-grid))
+        (λ (l : a .steps < m).
+        let k = mul-le-mul-right step l in
+        absurd (omega (arith, suc-mul (a .steps) step, a .on-grid)))
+        (le-or-lt m (a .steps))
+
+    pub leastOn-nearest : x ≤ high → leastOn low high step (leb b) ≡ At x
+    leastOn-nearest h =
+        leastOn-is low high step p (leb b) x
+        (record { available = record { steps = m; on-grid = on; within = h }; passes = le-leb b x up; least = nearest })
+
+    pub leastOn-nearest-past : high < x → leastOn low high step (leb b) ≡ Nothing
+    leastOn-nearest-past h =
+        leastOn-none low high step p (leb b)
+        (λ y a. fails (leb b y) (λ t. let g = nearest y a t in omega (arith, a .within)))
+
+-- the bound stands on the grid, or a remainder past it
+pub on-the-grid : (low b step : ℕ) → low ≤ b → (b - low) % step ≡ 0 → b ≡ low + (b - low) / step * step
+on-the-grid low b step l z = omega (arith, div-add-mod' (b - low) step)
+
+pub next-on-the-grid :
+    (low b step : ℕ) → low ≤ b → 0 < step → b + (step - (b - low) % step) ≡ low + ((b - low) / step + 1) * step
+next-on-the-grid low b step l p =
+    rw (add-mul, one-mul) (omega (arith, div-add-mod' (b - low) step, mod-lt (b - low) p))

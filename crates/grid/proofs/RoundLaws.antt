@@ -1,0 +1,39 @@
+-- `ceilDiv n d` is the least x with n ≤ x * d. Assumes nothing.
+use mathlib.Core.Path.{_≡_, sym}
+use Prim.Native.Nat.{ℕ, zero, suc, _+_, _-_, _*_, _/_, _%_, _≤_, _<_}
+use native.Mathlib.Nat.{le-mul-of-pos-right, pos-of-ne-zero, div-add-mod', mod-lt, div-lt-iff-lt-mul, add-mul, one-mul, le-of-suc-le-suc, suc-mul, div-zero, mod-zero, div-eq-of-lt-le, mul-le-mul-right}
+use native.Mathlib.Numerals.{add-one}
+use native.Mathlib.Omega.{arith}
+use Rattle.grid.specs.Round.{ceilDiv}
+
+pub ceilDiv-enough : (n d : ℕ) → 0 < d → n ≤ ceilDiv n d * d
+unfolding ceilDiv
+ceilDiv-enough n d p =
+    omega (arith, div-add-mod' (n + (d - 1)) d, mod-lt (n + (d - 1)) p)
+
+pub ceilDiv-least : (n d x : ℕ) → 0 < d → n ≤ x * d → ceilDiv n d ≤ x
+unfolding ceilDiv
+ceilDiv-least n d x p h =
+    le-of-suc-le-suc (div-lt-iff-lt-mul p .1 (rw (suc-mul x d) (omega arith)))
+
+-- the quotient, and one more where something is left over
+pub ceilDiv-exact : (n d : ℕ) → 0 < d → n % d ≡ 0 → n / d ≡ ceilDiv n d
+unfolding ceilDiv
+ceilDiv-exact n d p z =
+    sym (div-eq-of-lt-le d (omega (arith, div-add-mod' n d)) (rw (add-mul (n / d) 1 d, one-mul d) (omega (arith, div-add-mod' n d))))
+
+pub ceilDiv-over : (n d : ℕ) → 0 < d → (n % d ≡ 0 → ⊥) → n / d + 1 ≡ ceilDiv n d
+unfolding ceilDiv
+ceilDiv-over n d p z =
+    sym
+    (div-eq-of-lt-le d
+    (rw (add-mul (n / d) 1 d, one-mul d) (omega (arith, div-add-mod' n d, mod-lt n p)))
+    (rw (add-mul (n / d + 1) 1 d, add-mul (n / d) 1 d, one-mul d) (omega (arith, div-add-mod' n d, mod-lt n p))))
+
+pub ceilDiv-by-zero : (n d : ℕ) → d ≡ 0 → 0 ≡ ceilDiv n d
+unfolding ceilDiv
+ceilDiv-by-zero n d e = rw (e, div-zero)
+
+-- one more than the quotient is at most n where something is left over
+pub over-fits : (n d : ℕ) → (d ≡ 0 → ⊥) → (n % d ≡ 0 → ⊥) → n / d + 1 ≤ n
+over-fits n d p z = omega (arith, div-add-mod' n d, le-mul-of-pos-right (n / d) (pos-of-ne-zero p))

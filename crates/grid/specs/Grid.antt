@@ -1,0 +1,26 @@
+-- The values that a relay offers: low, low + step, .. up to high [01 §2, fields 12 to 14]. Definitions only.
+use mathlib.Core.Path.{_≡_}
+use mathlib.Core.Bool.{Bool}
+use Prim.Native.Nat.{ℕ, _+_, _-_, _*_, _/_, _≤_}
+use Rattle.grid.specs.declared.Found.{Found}
+use Rattle.grid.specs.declared.Found.the-variants.{At, Nothing}
+use Rattle.grid.specs.First.{first}
+
+-- x is one of the values low, low + step, .. up to high
+pub record Available (low high step x : ℕ) : Type 0 where
+  pub steps : ℕ
+  pub on-grid : x ≡ low + steps * step
+  pub within : x ≤ high
+
+-- how many values there are
+unfoldable pub count : ℕ → ℕ → ℕ → ℕ
+count low high step = (high + step - low) / step
+
+-- the value that stands m steps above low
+unfoldable pub valueAt : ℕ → ℕ → Found → Found
+valueAt low step (At m) = At (low + m * step)
+valueAt low step Nothing = Nothing
+
+-- the least available value that passes the test `ok`
+unfoldable pub leastOn : ℕ → ℕ → ℕ → (ℕ → Bool) → Found
+leastOn low high step ok = valueAt low step (first (λ m. ok (low + m * step)) 0 (count low high step))

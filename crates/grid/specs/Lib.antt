@@ -1,0 +1,4 @@
+pub mod First
+pub mod Fold
+pub mod Grid
+pub mod Round

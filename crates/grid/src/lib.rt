@@ -1,0 +1,50 @@
+// Leaf arithmetic: the least available value of a grid low, low + step, .. up to high.
+ghost use mathlib.Core.Path.{_≡_};
+ghost use lib.Dec.{leb};
+ghost use Rattle.grid.specs.Grid.{leastOn};
+ghost use Rattle.grid.specs.Round.{ceilDiv};
+
+// What a search gives.
+pub enum Found {
+    At(u64),
+    Nothing,
+}
+
+// n / d rounded up; 0 where d is 0.
+pub fn ceil_div(n: u64, d: u64) -> u64
+    ensures { λ r. ⌜ r ≡ ceilDiv n d ⌝ }
+{
+    if d == 0 {
+        return 0;
+    }
+    let q = n / d;
+    if n % d == 0 { q } else { q + 1 }
+}
+
+// The least value of the grid at or above the bound.
+pub fn least_on(low: u64, high: u64, step: u64, bound: u64) -> Found
+    ensures { λ r. ⌜ r ≡ leastOn low high step (leb bound) ⌝ }
+{
+    if step == 0 {
+        return Found::Nothing;
+    }
+    if high < low {
+        return Found::Nothing;
+    }
+    if bound <= low {
+        return Found::At(low);
+    }
+    if high < bound {
+        return Found::Nothing;
+    }
+    let past = (bound - low) % step;
+    if past == 0 {
+        return Found::At(bound);
+    }
+    let up = step - past;
+    if high - bound < up {
+        Found::Nothing
+    } else {
+        Found::At(bound + up)
+    }
+}

@@ -1,0 +1,94 @@
+-- Laws of the tests 2 to 5, one for each way that a test ends. Assumes nothing.
+use mathlib.Core.Path.{_≡_, refl, sym, ap, _∙_}
+use mathlib.Core.Bool.{Bool, true, false, not, cond, _&&_}
+use mathlib.Core.List.{List}
+use Prim.Native.Nat.{ℕ, _+_, _-_, _*_, _/_, _%_, _≤_, _<_}
+use lib.Dec.{leb, ltb, eqb}
+use lib.ListN.{length}
+use borrow.Author.Tests.{le-leb, lt-leb, lt-ltb, le-ltb, eq-eqb, ne-eqb}
+use Rattle.grid.specs.declared.Found.{Found}
+use Rattle.grid.specs.declared.Found.the-variants.{At, Nothing}
+use Rattle.grid.specs.First.{first}
+use Rattle.rows.specs.declared.Answer.the-variants.{Count, Room, Field, Tree}
+use Rattle.rows.specs.declared.Tested.{Tested}
+use Rattle.rows.specs.declared.Tested.the-variants.{Passed, Refused}
+use Rattle.rows.specs.Row.{rows, field}
+use Rattle.rows.specs.Tests.{fieldRight, faultAfter, rowFault, rowAtFault, feedsRight, fedWrongly, sizeTest, fieldAnswer, rowsTest, treeAnswer, treeTest}
+
+-- the tests that the loops search with
+abbrev pub fieldWrong : List ℕ → ℕ → ℕ → Bool
+fieldWrong l i k = not (fieldRight l i k)
+
+module _ (l : List ℕ) (i : ℕ) where
+  pub fault-found : (k : ℕ) → first (fieldWrong l i) 0 18 ≡ At k → k + 1 ≡ rowFault l i
+  unfolding rowFault faultAfter
+  fault-found k e = rw e
+
+  pub fault-none : first (fieldWrong l i) 0 18 ≡ Nothing → field l i 11 ≤ field l i 12 → 0 ≡ rowFault l i
+  unfolding rowFault faultAfter
+  fault-none e h = rw (e, le-leb _ _ h)
+
+  pub fault-order : first (fieldWrong l i) 0 18 ≡ Nothing → field l i 12 < field l i 11 → 12 ≡ rowFault l i
+  unfolding rowFault faultAfter
+  fault-order e h = rw (e, lt-leb _ _ h)
+
+module _ (l : List ℕ) where
+  pub row-wrong : (i f : ℕ) → f ≡ rowFault l i → (f ≡ 0 → ⊥) → rowAtFault l i ≡ true
+  row-wrong i f q h = rw (← q, ne-eqb f 0 h)
+
+  pub row-right : (i f : ℕ) → f ≡ rowFault l i → f ≡ 0 → rowAtFault l i ≡ false
+  row-right i f q h = rw (← q, eq-eqb f 0 h)
+
+  pub fields-found : (i f : ℕ) → f ≡ rowFault l i → first (rowAtFault l) 0 (rows l) ≡ At i → Refused (Field (i + 1) f) ≡ rowsTest l
+  unfolding rowsTest fieldAnswer
+  fields-found i f q e = rw (e, q)
+
+  pub fields-none : (t : Tested) → t ≡ treeTest l → first (rowAtFault l) 0 (rows l) ≡ Nothing → t ≡ rowsTest l
+  unfolding rowsTest fieldAnswer
+  fields-none t q e = rw (e, q)
+
+  pub tree-found : (i : ℕ) → first (fedWrongly l) 0 (rows l) ≡ At i → Refused (Tree (i + 1)) ≡ treeTest l
+  unfolding treeTest treeAnswer
+  tree-found i e = rw e
+
+  pub tree-none : first (fedWrongly l) 0 (rows l) ≡ Nothing → Passed ≡ treeTest l
+  unfolding treeTest treeAnswer
+  tree-none e = rw e
+
+module _ (l : List ℕ) (i f : ℕ) (e : f ≡ field l i 1) where
+  pub feeds-last : i + 1 ≡ rows l → eqb f 0 ≡ feedsRight l i
+  unfolding feedsRight
+  feeds-last h = rw (eq-eqb (i + 1) (rows l) h, e)
+
+  pub feeds-below : (i + 1 ≡ rows l → ⊥) → f ≤ i + 1 → false ≡ feedsRight l i
+  unfolding feedsRight
+  feeds-below n h = rw (ne-eqb (i + 1) (rows l) n, ← e, le-ltb (i + 1) f h)
+
+  pub feeds-above : (i + 1 ≡ rows l → ⊥) → i + 1 < f → rows l < f → false ≡ feedsRight l i
+  unfolding feedsRight
+  feeds-above n g h = rw (ne-eqb (i + 1) (rows l) n, ← e, lt-ltb (i + 1) f g, lt-leb f (rows l) h)
+
+  pub feeds-by : (k : ℕ) → k ≡ field l (f - 1) 2 → (i + 1 ≡ rows l → ⊥) → i + 1 < f → f ≤ rows l → not (eqb k 3) ≡ feedsRight l i
+  unfolding feedsRight
+  feeds-by k q n g h = rw (ne-eqb (i + 1) (rows l) n, ← e, lt-ltb (i + 1) f g, le-leb f (rows l) h, q)
+
+module _ (len room : ℕ) where
+  pub size-ragged : (len % 18 ≡ 0 → ⊥) → Refused Count ≡ sizeTest len room
+  unfolding sizeTest
+  size-ragged h = rw (ne-eqb (len % 18) 0 h)
+
+  pub size-none : len % 18 ≡ 0 → len < 18 → Refused Count ≡ sizeTest len room
+  unfolding sizeTest
+  size-none e h = rw (eq-eqb (len % 18) 0 e, lt-leb 18 len h)
+
+  pub size-over : len % 18 ≡ 0 → 18 ≤ len → 4608 < len → Refused Count ≡ sizeTest len room
+  unfolding sizeTest
+  size-over e g h = rw (eq-eqb (len % 18) 0 e, le-leb 18 len g, lt-leb len 4608 h)
+
+  pub size-short : len % 18 ≡ 0 → 18 ≤ len → len ≤ 4608 → room < 3 * (len / 18) → Refused Room ≡ sizeTest len room
+  unfolding sizeTest
+  size-short e g h k = rw (eq-eqb (len % 18) 0 e, le-leb 18 len g, le-leb len 4608 h, lt-leb (3 * (len / 18)) room k)
+
+  pub size-right : len % 18 ≡ 0 → 18 ≤ len → len ≤ 4608 → 3 * (len / 18) ≤ room → Passed ≡ sizeTest len room
+  unfolding sizeTest
+  size-right e g h k = rw (eq-eqb (len % 18) 0 e, le-leb 18 len g, le-leb len 4608 h, le-leb (3 * (len / 18)) room k)

@@ -1,0 +1,4 @@
+pub mod Answer
+pub mod InRange
+pub mod Row
+pub mod Tests

@@ -1,0 +1,297 @@
+// Section 2 of the scope: one row, its fields' bounds, and how rows feed each other.
+// Rows and fields are counted from 0 here: index i is row number i + 1, index k is field number k + 1.
+use grid::Found;
+ghost use mathlib.Core.Path.{_≡_};
+ghost use Prim.Native.Nat.{_+_, _*_, _<_, _≤_};
+ghost use lib.ListN.{length};
+ghost use Rattle.grid.specs.First.{first};
+ghost use Rattle.rows.specs.Answer.{givenBy};
+ghost use Rattle.rows.specs.Row.{field, rowAt, rows};
+ghost use Rattle.rows.specs.Tests.{fieldRight, rowFault, rowAtFault, feedsRight, fedWrongly, sizeTest, treeTest, rowsTest};
+
+pub const FIELDS: usize = 18;
+
+// What the conditions read of a row: fields 2 to 18, in the list's order [01 §2].
+pub struct Row {
+    pub feeder: u64,
+    pub kind: u64,
+    pub volts: u64,
+    pub work: u64,
+    pub selfstart: u64,
+    pub returnfactor: u64,
+    pub far: u64,
+    pub clear: u64,
+    pub near: u64,
+    pub factor: u64,
+    pub low: u64,
+    pub high: u64,
+    pub step: u64,
+    pub device: u64,
+    pub floor: u64,
+    pub ceiling: u64,
+    pub backed: u64,
+}
+
+// The answers of section 4, each with its place: row and field numbers from 1.
+pub enum Answer {
+    Done,
+    Count,
+    Room,
+    Field(u64, u64),
+    Tree(u64),
+    Pickup(u64),
+    Delay(u64),
+}
+
+// What a test finds.
+pub enum Tested {
+    Passed,
+    Refused(Answer),
+}
+
+// An answer in section 4's numbers.
+pub struct Given {
+    pub number: u64,
+    pub place: u64,
+    pub field: u64,
+}
+
+pub fn numbers(a: Answer) -> Given
+    ensures { λ r. ⌜ r ≡ givenBy a ⌝ }
+{
+    match a {
+        Answer::Done => Given {
+            number: 0,
+            place: 0,
+            field: 0,
+        },
+        Answer::Count => Given {
+            number: 2,
+            place: 0,
+            field: 0,
+        },
+        Answer::Room => Given {
+            number: 3,
+            place: 0,
+            field: 0,
+        },
+        Answer::Field(row, field) => Given {
+            number: 4,
+            place: row,
+            field,
+        },
+        Answer::Tree(row) => Given {
+            number: 5,
+            place: row,
+            field: 0,
+        },
+        Answer::Pickup(row) => Given {
+            number: 6,
+            place: row,
+            field: 0,
+        },
+        Answer::Delay(row) => Given {
+            number: 7,
+            place: row,
+            field: 0,
+        },
+    }
+}
+
+// The least and the greatest number allowed, field by field [01 §2].
+const BOUNDS: [u64; 36] = [
+    1,
+    256,
+    0,
+    256,
+    1,
+    3,
+    100,
+    500000,
+    1,
+    100000000,
+    1000,
+    10000,
+    800,
+    1000,
+    1,
+    100000000,
+    1,
+    100000000,
+    1,
+    100000000,
+    1000,
+    2000,
+    1,
+    100000000,
+    1,
+    100000000,
+    1,
+    100000000,
+    1,
+    3,
+    0,
+    100000,
+    0,
+    100000,
+    0,
+    1,
+];
+
+pub fn field_at(list: &[u64], i: usize, k: usize) -> u64
+    requires { ⌜ i * 18 + k < length (now list) ⌝ }
+    ensures { λ r. ⌜ r ≡ field (now (list .entry)) i k ⌝ }
+{
+    list[i * FIELDS + k]
+}
+
+pub fn row_at(list: &[u64], i: usize) -> Row
+    requires { ⌜ i * 18 + 18 ≤ length (now list) ⌝ }
+    ensures { λ r. ⌜ r ≡ rowAt (now (list .entry)) i ⌝ }
+{
+    let at = i * FIELDS;
+    Row {
+        feeder: list[at + 1],
+        kind: list[at + 2],
+        volts: list[at + 3],
+        work: list[at + 4],
+        selfstart: list[at + 5],
+        returnfactor: list[at + 6],
+        far: list[at + 7],
+        clear: list[at + 8],
+        near: list[at + 9],
+        factor: list[at + 10],
+        low: list[at + 11],
+        high: list[at + 12],
+        step: list[at + 13],
+        device: list[at + 14],
+        floor: list[at + 15],
+        ceiling: list[at + 16],
+        backed: list[at + 17],
+    }
+}
+
+fn field_right(list: &[u64], i: usize, k: usize) -> bool
+    requires { ⌜ (i * 18 + k < length (now list)) × (k < 18) ⌝ }
+    ensures { λ r. ⌜ r ≡ fieldRight (now (list .entry)) i k ⌝ }
+{
+    let x = field_at(list, i, k);
+    let least = BOUNDS[2 * k];
+    let greatest = BOUNDS[2 * k + 1];
+    if x < least {
+        return false;
+    }
+    if greatest < x {
+        return false;
+    }
+    if k == 0 {
+        return x == (i as u64) + 1;
+    }
+    true
+}
+
+// The first field at fault of a row, from 1; 0 where there is none.
+fn row_fault(list: &[u64], i: usize) -> u64
+    requires { ⌜ i * 18 + 18 ≤ length (now list) ⌝ }
+    ensures { λ r. ⌜ r ≡ rowFault (now (list .entry)) i ⌝ }
+{
+    let mut k = 0;
+    while k < FIELDS {
+        if !field_right(list, i, k) {
+            return (k as u64) + 1;
+        }
+        k += 1;
+    }
+    let low = field_at(list, i, 11);
+    let high = field_at(list, i, 12);
+    if low <= high { 0 } else { 12 }
+}
+
+// The first row with a field at fault.
+fn first_row_at_fault(list: &[u64]) -> Found
+    ensures { λ r. ⌜ r ≡ first (rowAtFault (now (list .entry))) 0 (rows (now (list .entry))) ⌝ }
+{
+    let n = list.len() / FIELDS;
+    let mut i = 0;
+    while i < n {
+        if row_fault(list, i) != 0 {
+            return Found::At(i as u64);
+        }
+        i += 1;
+    }
+    Found::Nothing
+}
+
+// A row but the last is fed by a row with a greater number that is no motor; the last by the source.
+fn feeds_right(list: &[u64], i: usize) -> bool
+    requires { ⌜ i < rows (now list) ⌝ }
+    ensures { λ r. ⌜ r ≡ feedsRight (now (list .entry)) i ⌝ }
+{
+    let n = list.len() / FIELDS;
+    let feeder = field_at(list, i, 1);
+    if i + 1 == n {
+        return feeder == 0;
+    }
+    if feeder <= (i as u64) + 1 {
+        return false;
+    }
+    if (n as u64) < feeder {
+        return false;
+    }
+    field_at(list, (feeder - 1) as usize, 2) != 3
+}
+
+// The first row that is fed wrongly.
+fn first_fed_wrongly(list: &[u64]) -> Found
+    ensures { λ r. ⌜ r ≡ first (fedWrongly (now (list .entry))) 0 (rows (now (list .entry))) ⌝ }
+{
+    let n = list.len() / FIELDS;
+    let mut i = 0;
+    while i < n {
+        if !feeds_right(list, i) {
+            return Found::At(i as u64);
+        }
+        i += 1;
+    }
+    Found::Nothing
+}
+
+// 5 TREE over all rows ascending.
+fn test_tree(list: &[u64]) -> Tested
+    ensures { λ r. ⌜ r ≡ treeTest (now (list .entry)) ⌝ }
+{
+    match first_fed_wrongly(list) {
+        Found::At(i) => Tested::Refused(Answer::Tree(i + 1)),
+        Found::Nothing => Tested::Passed,
+    }
+}
+
+// 4 FIELD over all rows ascending, then 5.
+pub fn test_rows(list: &[u64]) -> Tested
+    ensures { λ r. ⌜ r ≡ rowsTest (now (list .entry)) ⌝ }
+{
+    match first_row_at_fault(list) {
+        Found::At(i) => Tested::Refused(Answer::Field(i + 1, row_fault(list, i as usize))),
+        Found::Nothing => test_tree(list),
+    }
+}
+
+// 2 COUNT, then 3 ROOM, for a list and a card of so many numbers.
+pub fn test_size(len: usize, room: usize) -> Tested
+    ensures { λ r. ⌜ r ≡ sizeTest len room ⌝ }
+{
+    if len % FIELDS != 0 {
+        return Tested::Refused(Answer::Count);
+    }
+    if len < FIELDS {
+        return Tested::Refused(Answer::Count);
+    }
+    if 256 * FIELDS < len {
+        return Tested::Refused(Answer::Count);
+    }
+    if room < 3 * (len / FIELDS) {
+        Tested::Refused(Answer::Room)
+    } else {
+        Tested::Passed
+    }
+}
