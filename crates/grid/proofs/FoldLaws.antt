@@ -1,9 +1,11 @@
 -- Laws of sums, maxima and `every` below n. Assumes nothing.
 use mathlib.Core.Path.{_≡_, refl, sym, ap, ap₂, _∙_}
 use mathlib.Core.Bool.{Bool, true, false, _&&_}
-use mathlib.Core.Logic.{⊎-elim}
+use mathlib.Core.Logic.{_⊎_, inl, inr, ⊎-elim}
+use lib.Dec.{leb}
+use borrow.Author.Tests.{leb-true, leb-false}
 use Prim.Native.Nat.{ℕ, zero, suc, _+_, _*_, _-_, _≤_, _<_, max}
-use native.Mathlib.Nat.{eq-or-lt-of-le, le-of-suc-le-suc, le-max-left, le-max-right, max-le, le-trans, not-suc-le-zero, le-refl}
+use native.Mathlib.Nat.{eq-or-lt-of-le, le-of-suc-le-suc, le-max-left, le-max-right, max-le, le-trans, not-suc-le-zero, max-eq-right}
 use native.Mathlib.Numerals.{add-one}
 use native.Mathlib.Omega.{arith}
 use Rattle.grid.specs.Fold.{sumTo, maxTo, every}
@@ -99,3 +101,31 @@ module _ (ok : ℕ → Bool) where
   unfolding every
   every-of zero h = refl
   every-of (suc n) h = and-both (every-of n (λ j l. h j (omega arith))) (h n (omega arith))
+
+-- a maximum is 0 or one of its numbers
+pub record Attained (f : ℕ → ℕ) (n m : ℕ) : Type 0 where
+  pub at : ℕ
+  pub below : at < n
+  pub is : f at ≡ m
+
+pub maxTo-attained : (f : ℕ → ℕ) (n : ℕ) → (maxTo n f ≡ 0) ⊎ Attained f n (maxTo n f)
+unfolding maxTo
+maxTo-attained f zero = inl refl
+maxTo-attained f (suc n) =
+    ⊎-elim
+    (λ (h : leb (maxTo n f) (f n) ≡ true).
+    let e = max-eq-right (leb-true (maxTo n f) (f n) h) in
+    rw e (inr (record { at = n; below = omega arith; is = refl })))
+    (λ (h : leb (maxTo n f) (f n) ≡ false).
+    let e : max (maxTo n f) (f n) ≡ maxTo n f = omega (arith, leb-false (maxTo n f) (f n) h) in
+    rw e (⊎-elim inl (λ a. inr (record { at = a .at; below = omega (arith, a .below); is = a .is })) (maxTo-attained f n)))
+    (passes-or-fails (leb (maxTo n f) (f n)))
+
+-- a sum of nothing but 0
+pub sumTo-zero : (f : ℕ → ℕ) (n : ℕ) → ((j : ℕ) → j < n → f j ≡ 0) → sumTo n f ≡ 0
+unfolding sumTo
+sumTo-zero f zero h = refl
+sumTo-zero f (suc n) h =
+    let s = sumTo-zero f n (λ j l. h j (omega arith)) in
+    let t = h n (omega arith) in
+    omega arith

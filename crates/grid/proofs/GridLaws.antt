@@ -190,3 +190,20 @@ pub next-on-the-grid :
     (low b step : ℕ) → low ≤ b → 0 < step → b + (step - (b - low) % step) ≡ low + ((b - low) / step + 1) * step
 next-on-the-grid low b step l p =
     rw (add-mul, one-mul) (omega (arith, div-add-mod' (b - low) step, mod-lt (b - low) p))
+
+-- tests that agree on the available values find the same
+pub leastOn-same :
+    (low high step : ℕ) → 0 < step → (ok ok′ : ℕ → Bool) → ((x : ℕ) → Available low high step x → ok x ≡ ok′ x) →
+    leastOn low high step ok ≡ leastOn low high step ok′
+leastOn-same low high step p ok ok′ same = by-cases (leastOn low high step ok′) refl
+  where
+    by-cases : (f : Found) → leastOn low high step ok′ ≡ f → leastOn low high step ok ≡ f
+    by-cases (At x) e =
+        let r = leastOn-least low high step p ok′ x e in
+        leastOn-is low high step p ok x
+        (record {
+          available = r .available;
+          passes = same x (r .available) ∙ r .passes;
+          least = λ y a t. r .least y a (sym (same y a) ∙ t);
+        })
+    by-cases Nothing e = leastOn-none low high step p ok (λ y a. same y a ∙ leastOn-nothing low high step p ok′ e y a)

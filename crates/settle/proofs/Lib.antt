@@ -1,0 +1,3 @@
+pub mod FedLaws
+pub mod PickupLaws
+pub mod OutcomeLaws

@@ -1,0 +1,85 @@
+-- The cutoff and a row's outcome, one law for each way that they end. Assumes nothing.
+use mathlib.Core.Path.{_≡_, refl, sym, ap, ap₂, _∙_}
+use mathlib.Core.Bool.{Bool, true, false, cond}
+use Prim.Native.Nat.{ℕ, _*_, _≤_, _<_}
+use native.Mathlib.Nat.{mul-comm}
+use native.Mathlib.Omega.{arith}
+use lib.Dec.{leb, eqb}
+use borrow.Author.Tests.{eq-eqb, ne-eqb}
+use Rattle.grid.specs.declared.Found.{Found}
+use Rattle.grid.specs.declared.Found.the-variants.{At, Nothing}
+use Rattle.grid.specs.Round.{ceilDiv}
+use Rattle.grid.specs.Grid.{leastOn}
+use Rattle.grid.proofs.RoundLaws.{ceilDiv-leb}
+use Rattle.grid.proofs.GridLaws.{leastOn-same}
+use Rattle.rows.specs.declared.Row.{Row}
+use Rattle.rows.specs.InRange.{Bounded}
+use Rattle.settle.specs.declared.Cutoff.{Cutoff}
+use Rattle.settle.specs.declared.Cutoff.the-variants.{Fitted, NotFitted}
+use Rattle.settle.specs.declared.Fed.{Fed}
+use Rattle.settle.specs.declared.Settled.{Settled}
+use Rattle.settle.specs.declared.Settled.the-variants.{Set, NoPickup, NoDelay}
+use Rattle.settle.specs.Conditions.{staysClear, seesNear, margin}
+use Rattle.settle.specs.Fed.{pickupBy, delayBy, settledBy}
+use Rattle.settle.specs.Settle.{leastPickup, leastDelay, fitting, cutoffOf, printed, outcomeOf}
+
+pub margin-1 : (d : ℕ) → d ≡ 1 → 300 ≡ margin d
+unfolding margin
+margin-1 d e = rw (eq-eqb d 1 e)
+
+pub margin-2 : (d : ℕ) → (d ≡ 1 → ⊥) → d ≡ 2 → 500 ≡ margin d
+unfolding margin
+margin-2 d n e = rw (ne-eqb d 1 n, eq-eqb d 2 e)
+
+pub margin-3 : (d : ℕ) → (d ≡ 1 → ⊥) → (d ≡ 2 → ⊥) → 200 ≡ margin d
+unfolding margin
+margin-3 d n m = rw (ne-eqb d 1 n, ne-eqb d 2 m)
+
+-- no device asks for more than 500
+pub margin-to : (d : ℕ) → margin d ≤ 500
+unfolding margin
+margin-to d = by-cases (eqb d 1) (eqb d 2)
+  where
+    by-cases : (a b : Bool) → cond a 300 (cond b 500 200) ≤ 500
+    by-cases true b = omega arith
+    by-cases false true = omega arith
+    by-cases false false = omega arith
+
+module _ (r : Row) where
+  pub sees-near-is : (k x : ℕ) → k ≡ cond (eqb (r .kind) 1) 12 20 → leb (k * x) (10 * r .near) ≡ seesNear r x
+  unfolding seesNear
+  sees-near-is k x e = rw e
+
+  -- the least cutoff pickup is the least from factor × clear / 1,000, rounded up, on
+  pub cutoff-from : (b : ℕ) → b ≡ ceilDiv (r .factor * r .clear) 1000 → Bounded r → leastPickup r (leb b) ≡ leastPickup r (staysClear r)
+  unfolding staysClear
+  cutoff-from b e a =
+      leastOn-same (r .low) (r .high) (r .step) (a .step-from) (leb b) (staysClear r)
+      (λ x _. ap (λ (b : ℕ). leb b x) e ∙ ceilDiv-leb (r .factor * r .clear) 1000 x (omega arith) ∙ ap (leb (r .factor * r .clear)) (mul-comm x 1000))
+
+  pub cutoff-fitted : (x : ℕ) → leastPickup r (staysClear r) ≡ At x → seesNear r x ≡ true → Fitted x ≡ cutoffOf r
+  unfolding cutoffOf fitting
+  cutoff-fitted x e s = rw (e, s)
+
+  pub cutoff-blind : (x : ℕ) → leastPickup r (staysClear r) ≡ At x → seesNear r x ≡ false → NotFitted ≡ cutoffOf r
+  unfolding cutoffOf fitting
+  cutoff-blind x e s = rw (e, s)
+
+  pub cutoff-none : leastPickup r (staysClear r) ≡ Nothing → NotFitted ≡ cutoffOf r
+  unfolding cutoffOf fitting
+  cutoff-none e = rw e
+
+  module _ (f : Fed) where
+    pub no-pickup : leastPickup r (pickupBy r f) ≡ Nothing → NoPickup ≡ settledBy r f
+    unfolding settledBy outcomeOf
+    no-pickup e = rw e
+
+    pub no-delay : (I : ℕ) → leastPickup r (pickupBy r f) ≡ At I → leastDelay r (delayBy r f) ≡ Nothing → NoDelay ≡ settledBy r f
+    unfolding settledBy outcomeOf
+    no-delay I e g = rw (e, g)
+
+    pub both-found :
+        (I t : ℕ) (c : Cutoff) → leastPickup r (pickupBy r f) ≡ At I → leastDelay r (delayBy r f) ≡ At t → c ≡ cutoffOf r →
+        Set (record { pickup = I; delay = t; cutoff = c }) ≡ settledBy r f
+    unfolding settledBy outcomeOf
+    both-found I t c e g h = rw (e, g, h)

@@ -1,0 +1,106 @@
+-- A pickup and a delay judged by the four numbers: lower bounds rounded up, upper tests, and the least value between.
+-- Assumes nothing.
+use mathlib.Core.Path.{_≡_, refl, sym, ap, ap₂, _∙_}
+use mathlib.Core.Bool.{Bool, true, false, not, cond, _&&_, _||_}
+use Prim.Native.Nat.{ℕ, _+_, _-_, _*_, _≤_, _<_, max}
+use native.Mathlib.Nat.{mul-le-mul, mul-le-mul-left, mul-le-mul-right, mul-assoc, mul-left-comm, mul-pos, le-trans, lt-of-lt-of-le}
+use native.Mathlib.Omega.{arith}
+use lib.Dec.{leb, eqb}
+use borrow.Author.Tests.{le-leb, lt-leb, leb-true, eq-eqb, ne-eqb}
+use Rattle.grid.specs.declared.Found.{Found}
+use Rattle.grid.specs.declared.Found.the-variants.{At, Nothing}
+use Rattle.grid.specs.Grid.{Available, leastOn}
+use Rattle.grid.specs.Round.{ceilDiv}
+use Rattle.grid.proofs.BoolLaws.{and-left, and-right, and-both, same-test}
+use Rattle.grid.proofs.GridLaws.{capped, leastOn-capped, leastOn-same, leastOn-least}
+use Rattle.grid.proofs.RoundLaws.{ceilDiv-leb, max-leb}
+use Rattle.rows.specs.declared.Row.{Row}
+use Rattle.rows.specs.InRange.{Bounded}
+use Rattle.settle.specs.declared.Fed.{Fed}
+use Rattle.settle.specs.Conditions.{returnsAfterSelfStart, seesOwnZone, withinDelays}
+use Rattle.settle.specs.Fed.{reach, clearOfAll, backsUpAll, pickupBy, delayBy}
+use Rattle.settle.specs.Settle.{leastPickup, leastDelay}
+
+-- a current times volts
+pub current-volts : {a b : ℕ} → a ≤ 100000000 → b ≤ 500000 → a * b ≤ 50000000000000
+current-volts h k = mul-le-mul h k
+
+-- the code's x * (10 * k) is the document's 10 × x × k
+regroup : (x k : ℕ) → x * (10 * k) ≡ 10 * x * k
+regroup x k = mul-left-comm x 10 k ∙ sym (mul-assoc 10 x k)
+
+module _ (r : Row) (f : Fed) (a : Bounded r) where
+  -- the greater of the two bounds rounded up says P1 and P2
+  pub pickup-bound :
+      (b₁ b₂ : ℕ) → b₁ ≡ ceilDiv (11 * r .selfstart * r .work) (10 * r .returnfactor) →
+      b₂ ≡ ceilDiv (11 * (f .clearance + f .load - reach)) (10 * r .volts) →
+      (x : ℕ) → leb (max b₁ b₂) x ≡ (returnsAfterSelfStart r x && clearOfAll r f x)
+  unfolding returnsAfterSelfStart clearOfAll
+  pickup-bound b₁ b₂ e₁ e₂ x =
+      max-leb b₁ b₂ x ∙
+      ap₂ _&&_
+      (ap (λ (b : ℕ). leb b x) e₁ ∙ ceilDiv-leb _ _ x (omega (arith, a .return-from)) ∙ ap (leb (11 * r .selfstart * r .work)) (regroup x (r .returnfactor)))
+      (ap (λ (b : ℕ). leb b x) e₂ ∙ ceilDiv-leb _ _ x (omega (arith, a .volts-from)) ∙ ap (leb (11 * (f .clearance + f .load - reach))) (regroup x (r .volts)))
+
+  -- P3 and P4
+  abbrev pub upper : ℕ → Bool
+  upper x = seesOwnZone r x && backsUpAll r f x
+
+  pub upper-fails : (x : ℕ) → 10 * r .far < 15 * x → false ≡ upper x
+  unfolding seesOwnZone
+  upper-fails x h = rw (lt-leb (15 * x) (10 * r .far) h)
+
+  pub upper-is : (x : ℕ) → 15 * x ≤ 10 * r .far → leb (12 * x * r .volts) (10 * (reach - f .shortfall)) ≡ upper x
+  unfolding seesOwnZone backsUpAll
+  upper-is x h = rw (le-leb (15 * x) (10 * r .far) h)
+
+  -- a lower pickup sees what a higher one sees
+  upper-down : (x y : ℕ) → x ≤ y → upper y ≡ true → upper x ≡ true
+  unfolding seesOwnZone backsUpAll
+  upper-down x y l t =
+      let zone = leb-true (15 * y) (10 * r .far) (and-left (leb (15 * y) (10 * r .far)) (leb (12 * y * r .volts) (10 * (reach - f .shortfall))) t) in
+      let back = leb-true (12 * y * r .volts) (10 * (reach - f .shortfall)) (and-right (leb (15 * y) (10 * r .far)) (leb (12 * y * r .volts) (10 * (reach - f .shortfall))) t) in
+      and-both (le-leb (15 * x) (10 * r .far) (omega arith)) (le-leb (12 * x * r .volts) (10 * (reach - f .shortfall)) (le-trans (mul-le-mul-right (r .volts) (mul-le-mul-left 12 l)) back))
+
+  -- the least available pickup from the bound on, kept where P3 and P4 hold
+  pub pickup-found :
+      (b : ℕ) → ((x : ℕ) → leb b x ≡ (returnsAfterSelfStart r x && clearOfAll r f x)) →
+      leastPickup r (pickupBy r f) ≡ capped upper (leastPickup r (leb b))
+  unfolding pickupBy
+  pickup-found b bound =
+      leastOn-capped (r .low) (r .high) (r .step) (a .step-from) (pickupBy r f) upper b
+      (λ x _. ap (λ (t : Bool). t && upper x) (sym (bound x))) upper-down
+
+  -- the three ways in which the search ends, x the least value from the bound on
+  module _ (b : ℕ) (bound : (x : ℕ) → leb b x ≡ (returnsAfterSelfStart r x && clearOfAll r f x)) where
+    pub pickup-kept : (x : ℕ) → leastPickup r (leb b) ≡ At x → upper x ≡ true → At x ≡ leastPickup r (pickupBy r f)
+    pickup-kept x e u = sym (pickup-found b bound ∙ ap (capped upper) e ∙ rw u)
+
+    pub pickup-dropped : (x : ℕ) → leastPickup r (leb b) ≡ At x → upper x ≡ false → Nothing ≡ leastPickup r (pickupBy r f)
+    pickup-dropped x e u = sym (pickup-found b bound ∙ ap (capped upper) e ∙ rw u)
+
+    pub pickup-none : leastPickup r (leb b) ≡ Nothing → Nothing ≡ leastPickup r (pickupBy r f)
+    pickup-none e = sym (pickup-found b bound ∙ ap (capped upper) e)
+
+-- an available pickup is at most 100,000,000
+pub found-bounded : (r : Row) → Bounded r → (ok : ℕ → Bool) (x : ℕ) → leastPickup r ok ≡ At x → x ≤ 100000000
+found-bounded r a ok x e =
+    le-trans (leastOn-least (r .low) (r .high) (r .step) (a .step-from) ok x e .available .within) (a .high-to)
+
+-- a delay between floor and ceiling meets D1 and D2 exactly from the later of the earliest and, for a motor, 100 on
+module _ (r : Row) (f : Fed) where
+  pub least-motor : (m : ℕ) → m ≡ cond (eqb (r .kind) 3) 100 0 → leastDelay r (leb (max (f .earliest) m)) ≡ leastDelay r (delayBy r f)
+  unfolding delayBy withinDelays
+  least-motor m e =
+      leastOn-same (r .floor) (r .ceiling) 1 (omega arith) (leb (max (f .earliest) m)) (delayBy r f)
+      (λ x v.
+      max-leb (f .earliest) m x ∙
+      rw (le-leb (r .floor) x (omega (arith, v .on-grid)), le-leb x (r .ceiling) (v .within), e)
+      (by-kind (eqb (r .kind) 3) (leb (f .earliest) x) x))
+    where
+      by-kind : (k e : Bool) (x : ℕ) → (e && leb (cond k 100 0) x) ≡ ((not k || leb 100 x) && e)
+      by-kind true e x = mathlib.Core.Bool.and-comm e (leb 100 x)
+      by-kind false e x = ap (λ (t : Bool). e && t) (le-leb 0 x (omega arith)) ∙ mathlib.Core.Bool.and-true e
+
+  pub delay-from : (x : Found) (b m : ℕ) → x ≡ leastDelay r (leb b) → b ≡ max (f .earliest) m → m ≡ cond (eqb (r .kind) 3) 100 0 → x ≡ leastDelay r (delayBy r f)
+  delay-from x b m e g k = e ∙ ap (λ (b : ℕ). leastDelay r (leb b)) g ∙ least-motor m k

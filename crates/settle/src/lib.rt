@@ -1,0 +1,183 @@
+// Section 3 of the scope: one row's least settings, from its fields and what the rows that it feeds ask of it.
+use grid::Found;
+use grid::ceil_div;
+use grid::least_on;
+use rows::Row;
+ghost use mathlib.Core.Path.{_≡_};
+ghost use mathlib.Core.Bool.{_&&_};
+ghost use Prim.Native.Nat.{ℕ, _-_, _≤_, max};
+ghost use lib.Dec.{leb};
+ghost use Rattle.rows.specs.InRange.{Bounded};
+ghost use Rattle.settle.specs.Conditions.{returnsAfterSelfStart, seesOwnZone, seesNear, margin};
+ghost use Rattle.settle.specs.Fed.{clearOfAll, backsUpAll, pickupBy, delayBy, settledBy, shortfall, asked, FedBounded};
+ghost use Rattle.settle.specs.Settle.{leastPickup, leastDelay, cutoffOf, printed};
+
+// The cutoff is fitted at a stated pickup or not fitted [01 §3].
+pub enum Cutoff {
+    Fitted(u64),
+    NotFitted,
+}
+
+// A row's outcome.
+pub struct Outcome {
+    pub pickup: u64,
+    pub delay: u64,
+    pub cutoff: Cutoff,
+}
+
+pub enum Settled {
+    Set(Outcome),
+    NoPickup,
+    NoDelay,
+}
+
+// What the rows that a row feeds ask of it: the sum of their loads, and over them the greatest clearance,
+// shortfall of backup and earliest delay.
+pub struct Fed {
+    pub load: u64,
+    pub clearance: u64,
+    pub shortfall: u64,
+    pub earliest: u64,
+}
+
+// Above every product of a current and volts.
+pub const REACH: u64 = 60000000000000;
+
+fn over(a: u64, b: u64) -> u64
+    ensures { λ r. ⌜ r ≡ a - b ⌝ }
+{
+    if a <= b { 0 } else { a - b }
+}
+
+fn greater(a: u64, b: u64) -> u64
+    ensures { λ r. ⌜ r ≡ max a b ⌝ }
+{
+    if a <= b { b } else { a }
+}
+
+// The least pickup that P1 and P2 allow, available or not.
+fn pickup_from(r: Row, f: Fed) -> u64
+    requires { ⌜ Bounded r × FedBounded f ⌝ }
+    ensures { λ b. ⌜ ((x : ℕ) → leb b x ≡ (returnsAfterSelfStart r x && clearOfAll r f x)) ⌝ }
+{
+    let returns = ceil_div(11 * r.selfstart * r.work, 10 * r.returnfactor);
+    let asked = over(f.clearance + f.load, REACH);
+    let clears = ceil_div(11 * asked, 10 * r.volts);
+    greater(returns, clears)
+}
+
+// P3 and P4 of a pickup.
+fn sees(r: Row, f: Fed, x: u64) -> bool
+    requires { ⌜ Bounded r × FedBounded f × (x ≤ 100000000) ⌝ }
+    ensures { λ b. ⌜ b ≡ (seesOwnZone r x && backsUpAll r f x) ⌝ }
+{
+    if 10 * r.far < 15 * x {
+        return false;
+    }
+    12 * x * r.volts <= 10 * (REACH - f.shortfall)
+}
+
+fn least_pickup(r: Row, f: Fed) -> Found
+    requires { ⌜ Bounded r × FedBounded f ⌝ }
+    ensures { λ x. ⌜ x ≡ leastPickup r (pickupBy r f) ⌝ }
+{
+    let found = least_on(r.low, r.high, r.step, pickup_from(r, f));
+    match found {
+        Found::At(x) => if sees(r, f, x) { found } else { Found::Nothing },
+        Found::Nothing => Found::Nothing,
+    }
+}
+
+fn least_delay(r: Row, f: Fed) -> Found
+    ensures { λ x. ⌜ x ≡ leastDelay r (delayBy r f) ⌝ }
+{
+    let motor = if r.kind == 3 { 100 } else { 0 };
+    least_on(r.floor, r.ceiling, 1, greater(f.earliest, motor))
+}
+
+// A cutoff's sensitivity at its pickup.
+fn sees_near(r: Row, x: u64) -> bool
+    requires { ⌜ Bounded r × (x ≤ 100000000) ⌝ }
+    ensures { λ b. ⌜ b ≡ seesNear r x ⌝ }
+{
+    let factor = if r.kind == 1 { 12 } else { 20 };
+    factor * x <= 10 * r.near
+}
+
+fn cutoff_at(r: Row) -> Cutoff
+    requires { ⌜ Bounded r ⌝ }
+    ensures { λ c. ⌜ c ≡ cutoffOf r ⌝ }
+{
+    match least_on(r.low, r.high, r.step, ceil_div(r.factor * r.clear, 1000)) {
+        Found::At(x) => if sees_near(r, x) {
+            Cutoff::Fitted(x)
+        } else {
+            Cutoff::NotFitted
+        },
+        Found::Nothing => Cutoff::NotFitted,
+    }
+}
+
+// The row's least settings, or the refusal: PICKUP before DELAY.
+pub fn settle(r: Row, f: Fed) -> Settled
+    requires { ⌜ Bounded r × FedBounded f ⌝ }
+    ensures { λ s. ⌜ s ≡ settledBy r f ⌝ }
+{
+    match least_pickup(r, f) {
+        Found::Nothing => Settled::NoPickup,
+        Found::At(pickup) => match least_delay(r, f) {
+            Found::Nothing => Settled::NoDelay,
+            Found::At(delay) => Settled::Set(Outcome {
+                pickup,
+                delay,
+                cutoff: cutoff_at(r),
+            }),
+        },
+    }
+}
+
+// The number that the card shows for a cutoff.
+pub fn printed_cutoff(c: Cutoff) -> u64
+    ensures { λ r. ⌜ r ≡ printed c ⌝ }
+{
+    match c {
+        Cutoff::Fitted(x) => x,
+        Cutoff::NotFitted => 0,
+    }
+}
+
+// The grading margin of a fed row's device.
+fn margin_of(device: u64) -> u64
+    ensures { λ r. ⌜ r ≡ margin device ⌝ }
+{
+    if device == 1 {
+        return 300;
+    }
+    if device == 2 { 500 } else { 200 }
+}
+
+fn shortfall_of(r: Row) -> u64
+    requires { ⌜ Bounded r ⌝ }
+    ensures { λ x. ⌜ x ≡ shortfall r ⌝ }
+{
+    if r.backed == 1 {
+        REACH - r.far * r.volts
+    } else {
+        0
+    }
+}
+
+// What a settled row asks of the row that feeds it.
+pub fn asks(r: Row, pickup: u64, delay: u64) -> Fed
+    requires { ⌜ Bounded r × (pickup ≤ 100000000) × (delay ≤ 100000) ⌝ }
+    ensures { λ f. ⌜ f ≡ asked r pickup delay ⌝ }
+{
+    let load = r.work * r.volts;
+    let shortfall = shortfall_of(r);
+    Fed {
+        load,
+        clearance: pickup * r.volts + (REACH - load),
+        shortfall,
+        earliest: delay + margin_of(r.device),
+    }
+}
