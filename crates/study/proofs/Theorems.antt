@@ -1,0 +1,105 @@
+-- The public theorems on the study's currents [01 §5], over the definitions that `convert` is proved against. Each is proved by citing a law, or by
+-- computing. Assumes nothing.
+use Prim.Native.Nat.{ℕ, suc, _*_, _^_, _≤_, _<_}
+use native.Mathlib.Nat.{mul-one}
+use mathlib.Core.Path.{_≡_, refl, sym, _∙_, subst}
+use mathlib.Core.Logic.{_⊎_, inl, inr}
+use mathlib.Core.Bool.{Bool, true, false, _&&_, cond}
+use mathlib.Core.List.{[], _∷_, map}
+use lib.IntN.{ℤ, pos, negsuc}
+use lib.Dec.{T, lit≤}
+use lib.Ieee.{Float, inf, fin, binary32, ofBits, nanBits}
+use lib.Ieee.Bits.{nanBits-is}
+use Rattle.study.specs.declared.single.Rounding.{Rounding}
+use Rattle.study.specs.declared.single.Rounding.the-variants.{Up, Down}
+use Rattle.study.specs.declared.single.Current.{Current}
+use Rattle.study.specs.declared.single.Current.the-variants.{Milliamperes, Refused}
+use Rattle.study.specs.declared.Study.{Study}
+use Rattle.study.specs.declared.Converted.{Converted}
+use Rattle.study.specs.Exact.{wholeOf, Rounds}
+use Rattle.study.specs.Currents.{allowed, ratedFits, currentOf, Gives, readingOf, refusedAt, answerOf, convertOf}
+use Rattle.study.specs.Cases.{Case, table}
+use Rattle.study.proofs.RoundLaws as round
+use Rattle.study.proofs.CurrentLaws as current
+
+-- ---- the fraction n / d rounded down is the greatest whole number at or below it, and rounded up the least at or above it
+
+pub floor-at-most : (n d : ℕ) → wholeOf Down n d * d ≤ n
+floor-at-most = round.floor-at-most
+
+pub floor-greatest : (n d j : ℕ) → 0 < d → j * d ≤ n → j ≤ wholeOf Down n d
+floor-greatest = round.floor-greatest
+
+pub ceiling-at-least : (n d : ℕ) → 0 < d → n ≤ wholeOf Up n d * d
+ceiling-at-least = round.ceiling-at-least
+
+pub ceiling-least : (n d j : ℕ) → 0 < d → n ≤ j * d → wholeOf Up n d ≤ j
+ceiling-least = round.ceiling-least
+
+-- ---- a single gives k mA exactly where it is finite, not negative, and k is its exact product rounded and from 1 to 100,000,000
+
+pub given-sound : (to : Rounding) (x : Float) (scale k : ℕ) → currentOf to x scale ≡ Milliamperes k → Gives to x scale k
+given-sound = current.current-gives
+
+pub given-complete : (to : Rounding) (x : Float) (scale k : ℕ) → Gives to x scale k → currentOf to x scale ≡ Milliamperes k
+given-complete = current.gives-current
+
+-- In powers of two: m * 2 ^ -(t + 1) times the scale is the fraction m * scale / 2 ^ (t + 1), which is rounded; m * 2 ^ t times the scale is a whole
+-- number, which is kept.
+pub fraction-rounded : (to : Rounding) (m t scale k : ℕ) → currentOf to (fin false m (negsuc t)) scale ≡ Milliamperes k → Rounds to (m * scale) (2 ^ suc t) k
+fraction-rounded to m t scale k h = subst (λ (n : ℕ). Rounds to (n * scale) (2 ^ suc t) k) (mul-one m) (given-sound to (fin false m (negsuc t)) scale k h .1)
+
+pub whole-number-kept : (to : Rounding) (m t scale k : ℕ) → currentOf to (fin false m (pos t)) scale ≡ Milliamperes k → k ≡ m * 2 ^ t * scale
+whole-number-kept to m t scale k h =
+    round.rounds-unique to (m * 2 ^ t * scale) 1 k (m * 2 ^ t * scale) (given-sound to (fin false m (pos t)) scale k h .1) (round.whole-number to (m * 2 ^ t * scale))
+
+-- ---- refused at any scale and in either direction: every NaN pattern, both infinities, negative numbers, both zeros
+
+pub nan-refused : (to : Rounding) (b scale : ℕ) → nanBits binary32 b ≡ true → currentOf to (ofBits binary32 b) scale ≡ Refused
+nan-refused to b scale h = current.nan-refused to (ofBits binary32 b) scale (sym (nanBits-is binary32 b) ∙ h)
+
+pub infinite-refused : (to : Rounding) (s : Bool) (scale : ℕ) → currentOf to (inf s) scale ≡ Refused
+unfolding currentOf
+infinite-refused to s scale = refl
+
+pub negative-refused : (to : Rounding) (m : ℕ) (e : ℤ) (scale : ℕ) → 0 < m → currentOf to (fin true m e) scale ≡ Refused
+negative-refused = current.negative-refused
+
+pub zero-refused : (to : Rounding) (s : Bool) (e : ℤ) (scale : ℕ) → currentOf to (fin s 0 e) scale ≡ Refused
+zero-refused = current.zero-refused
+
+-- ---- number 0 comes with place 0 and two allowed currents, and the only other number is 8, with a place up to 2 and both currents 0
+
+abbrev Done : Converted → Type 0
+Done r = (r .number ≡ 0) × (r .place ≡ 0) × T (allowed (r .greatest)) × T (allowed (r .least))
+
+abbrev Refusal : Converted → Type 0
+Refusal r = (r .number ≡ 8) × (r .place ≤ 2) × (r .greatest ≡ 0) × (r .least ≡ 0)
+
+abbrev Answered : Converted → Type 0
+Answered r = Done r ⊎ Refusal r
+
+answered-by : (fits : Bool) (g l : Current) → current.InRange g → current.InRange l → Answered (cond fits (answerOf g l) (refusedAt 0))
+answered-by true (Milliamperes g) (Milliamperes l) a b = inl (refl, refl, a, b)
+answered-by true (Milliamperes g) Refused a b = inr (refl, lit≤ tt, refl, refl)
+answered-by true Refused l a b = inr (refl, lit≤ tt, refl, refl)
+answered-by false g l a b = inr (refl, lit≤ tt, refl, refl)
+
+pub answered : (s : Study) → Answered (convertOf s)
+unfolding convertOf
+answered s =
+    answered-by (ratedFits (s .greatest) && ratedFits (s .least)) (readingOf Up (s .greatest)) (readingOf Down (s .least))
+    (current.current-in-range Up _ _)
+    (current.current-in-range Down _ _)
+
+-- ---- the table of worked cases, the examples of section 5 among them
+
+-- the singles of those examples by their bits: 0.5, 100, the next above 100, 13,421,773 / 2 ^ 27 and the smallest positive one, 2 ^ -149
+pub example-singles : map (ofBits binary32) (0x3f00_0000 ∷ 0x42c8_0000 ∷ 0x42c8_0001 ∷ 0x3dcc_cccd ∷ 1 ∷ [])
+    ≡ fin false 1 (negsuc 0) ∷ fin false 25 (pos 2) ∷ fin false 13107201 (negsuc 16) ∷ fin false 13421773 (negsuc 26) ∷ fin false 1 (negsuc 148) ∷ []
+unfolding ofBits
+example-singles = refl
+
+pub cases : map (λ (c : Case). convertOf (c .study)) table ≡ map (λ (c : Case). c .answer) table
+unfolding table convertOf currentOf ofBits
+cases = refl

@@ -1,0 +1,112 @@
+// Currents from the study package [01 §5]: two readings, each a single, turned into whole milliamperes (mA).
+
+ghost use mathlib.Core.Path.{_≡_};
+ghost use lib.Dec.{T};
+ghost use Rattle.study.specs.Currents.{ratedFits, readingOf, refusedAt, answerOf, convertOf};
+
+mod single;
+
+use single::Current;
+use single::Rounding;
+use single::allowed_current;
+use single::whole_current;
+
+// A single in its unit.
+pub enum Quantity {
+    Amperes(f32),
+    Kiloamperes(f32),
+    PerUnit(f32),
+}
+
+// A quantity with the rated current in mA beside it, which is needed only per unit.
+pub struct Reading {
+    pub quantity: Quantity,
+    pub rated: u64,
+}
+
+pub struct Study {
+    pub greatest: Reading,
+    pub least: Reading,
+}
+
+// The numbers given back [01 §4]: number 0 with both currents in mA, or number 8 with the place and both currents 0.
+pub struct Converted {
+    pub number: u64,
+    pub place: u64,
+    pub greatest: u64,
+    pub least: u64,
+}
+
+// A reading in whole mA. The caller has tested the rated current.
+fn reading_current(reading: Reading, to: Rounding) -> Current
+    requires { ⌜ T (ratedFits reading) ⌝ }
+    ensures { λ r. ⌜ r ≡ readingOf to reading ⌝ }
+{
+    let quantity = reading.quantity;
+    let rated = reading.rated;
+    match quantity {
+        Quantity::Amperes(x) => whole_current(x, 1000, to),
+        Quantity::Kiloamperes(x) => whole_current(x, 1000000, to),
+        Quantity::PerUnit(x) => whole_current(x, rated, to),
+    }
+}
+
+// Whether the rated current, if it is needed, is from 1 to 100,000,000 mA.
+fn rated_fits(reading: Reading) -> bool
+    ensures { λ r. ⌜ r ≡ ratedFits reading ⌝ }
+{
+    let quantity = reading.quantity;
+    let rated = reading.rated;
+    match quantity {
+        Quantity::Amperes(_) => true,
+        Quantity::Kiloamperes(_) => true,
+        Quantity::PerUnit(_) => allowed_current(rated),
+    }
+}
+
+// STUDY at a place.
+fn refused(place: u64) -> Converted
+    ensures { λ r. ⌜ r ≡ refusedAt place ⌝ }
+{
+    Converted {
+        number: 8,
+        place,
+        greatest: 0,
+        least: 0,
+    }
+}
+
+// What is given back for the two currents: a refused greatest comes before a refused least.
+fn answer(greatest: Current, least: Current) -> Converted
+    ensures { λ r. ⌜ r ≡ answerOf greatest least ⌝ }
+{
+    let Current::Milliamperes(g) = greatest else {
+        return refused(1);
+    };
+    let Current::Milliamperes(l) = least else {
+        return refused(2);
+    };
+    Converted {
+        number: 0,
+        place: 0,
+        greatest: g,
+        least: l,
+    }
+}
+
+// The two currents of a study, the greatest rounded up and the least down. The rated currents are tested before either reading.
+pub fn convert(s: Study) -> Converted
+    ensures { λ r. ⌜ r ≡ convertOf s ⌝ }
+{
+    let greatest = s.greatest;
+    let least = s.least;
+    if !rated_fits(greatest) {
+        return refused(0);
+    }
+    if !rated_fits(least) {
+        return refused(0);
+    }
+    let g = reading_current(greatest, Rounding::Up);
+    let l = reading_current(least, Rounding::Down);
+    answer(g, l)
+}

@@ -1,0 +1,117 @@
+//! The whole calculation in one pass over the rows, in u64, as the baseline
+//! for speed [01 §4]. Each finished row adds to what its feeder must heed.
+//!
+//! Past the field tests 11 times the load of 255 rows and the excess of one
+//! stays below 2^57, and by P1 a pickup is above its row's work.
+
+use crate::answer::{Answer, DELAY, PICKUP};
+use crate::conditions::step_above;
+use crate::row::*;
+
+/// What the fed rows finished so far ask of their feeder.
+#[derive(Clone, Copy)]
+struct Below {
+    /// Sum of work × volts.
+    load: u64,
+    /// Greatest (pickup − work) × volts.
+    excess: u64,
+    /// Least far × volts over backed rows.
+    reach: u64,
+    /// Greatest delay with its step.
+    delay: u64,
+}
+
+const NOTHING_BELOW: Below = Below { load: 0, excess: 0, reach: u64::MAX / 10, delay: 0 };
+
+pub fn whole(list: &[u64], card: &mut [u64]) -> Answer {
+    let count = match count_and_room(list.len(), card.len()) {
+        Ok(count) => count,
+        Err(refusal) => return refusal,
+    };
+    let rows = list.as_chunks::<FIELDS>().0;
+    if !fields_hold(rows) || !feeders_hold(rows) {
+        return read_list(list).expect_err("a faulty field or feeder");
+    }
+    let mut below = vec![NOTHING_BELOW; count + 1];
+    let mut settings = Vec::with_capacity(count);
+    for (at, numbers) in rows.iter().enumerate() {
+        let row = Row::read(numbers);
+        let Some(pickup) = least_pickup(&row, &below[at + 1]) else {
+            return Answer::at(PICKUP, row.row);
+        };
+        let Some(delay) = least_delay(&row, &below[at + 1]) else {
+            return Answer::at(DELAY, row.row);
+        };
+        heed(&mut below[row.feeds_from as usize], &row, pickup, delay);
+        settings.push([pickup, delay, fitted_cutoff(&row)]);
+    }
+    let settled = settings.as_flattened();
+    card[..settled.len()].copy_from_slice(settled);
+    Answer::DONE
+}
+
+fn fields_hold(rows: &[[u64; FIELDS]]) -> bool {
+    (1..).zip(rows).all(|(place, numbers)| {
+        let row = Row::read(numbers);
+        let mut hold = (row.row == place) & (row.low <= row.high);
+        for (value, bound) in numbers.iter().zip(&BOUNDS) {
+            hold &= value.wrapping_sub(bound.least) <= bound.greatest - bound.least;
+        }
+        hold
+    })
+}
+
+fn feeders_hold(rows: &[[u64; FIELDS]]) -> bool {
+    let Some((last, fed)) = rows.split_last() else {
+        return false;
+    };
+    let feeder_holds = |numbers: &[u64; FIELDS]| {
+        let row = Row::read(numbers);
+        let feeder = rows.get((row.feeds_from as usize).wrapping_sub(1));
+        row.feeds_from > row.row && feeder.is_some_and(|feeder| Row::read(feeder).kind != MOTOR)
+    };
+    Row::read(last).feeds_from == 0 && fed.iter().all(feeder_holds)
+}
+
+fn heed(below: &mut Below, row: &Row, pickup: u64, delay: u64) {
+    below.load += row.work * row.volts;
+    below.excess = below.excess.max((pickup - row.work) * row.volts);
+    if row.backed == 1 {
+        below.reach = below.reach.min(row.far * row.volts);
+    }
+    below.delay = below.delay.max(delay + step_above(row));
+}
+
+/// P1 to P4; for the fed row of greatest excess P2 asks most.
+fn least_pickup(row: &Row, below: &Below) -> Option<u64> {
+    let own = (11 * row.selfstart * row.work).div_ceil(10 * row.return_factor);
+    let fed = (11 * (below.load + below.excess)).div_ceil(10 * row.volts);
+    let pickup = least_available(row, own.max(fed))?;
+    let seen = 10 * row.far >= 15 * pickup && 10 * below.reach >= 12 * pickup * row.volts;
+    seen.then_some(pickup)
+}
+
+/// D1 and D2.
+fn least_delay(row: &Row, below: &Below) -> Option<u64> {
+    let motor = if row.kind == MOTOR { 100 } else { 0 };
+    let delay = row.floor.max(motor).max(below.delay);
+    (delay <= row.ceiling).then_some(delay)
+}
+
+fn fitted_cutoff(row: &Row) -> u64 {
+    let tenths = if row.kind == LINE { 12 } else { 20 };
+    match least_available(row, (row.factor * row.clear).div_ceil(1_000)) {
+        Some(cutoff) if 10 * row.near >= tenths * cutoff => cutoff,
+        _ => 0,
+    }
+}
+
+/// The least available pickup at or above `bound`.
+fn least_available(row: &Row, bound: u64) -> Option<u64> {
+    if bound > row.high {
+        return None;
+    }
+    let steps = bound.saturating_sub(row.low).div_ceil(row.step);
+    let available = row.low + steps * row.step;
+    (available <= row.high).then_some(available)
+}

@@ -1,0 +1,184 @@
+//! Lists in which one condition stands exactly at equality [01 §3], each with
+//! its neighbours on both sides.
+
+use super::Rng;
+use crate::conditions::*;
+use crate::row::*;
+use crate::whole::{fed_rows, whole, Answer, Settings};
+
+#[derive(Clone, Copy, Debug, PartialEq, Eq)]
+pub enum Condition {
+    P1,
+    P2,
+    P3,
+    P4,
+    Floor,
+    MotorDelay,
+    Ceiling,
+    D2,
+    CutoffClear,
+    CutoffNearLine,
+    CutoffNearOther,
+}
+
+use Condition::*;
+
+pub const CONDITIONS: [Condition; 11] =
+    [P1, P2, P3, P4, Floor, MotorDelay, Ceiling, D2, CutoffClear, CutoffNearLine, CutoffNearOther];
+
+type Field = fn(&mut Row) -> &mut u64;
+
+/// Rows made ready, and the field that is then moved by one.
+struct Edge {
+    rows: Vec<Row>,
+    moved: usize,
+    field: Field,
+}
+
+/// Takes an accepted list to the condition's equality at some row: one field
+/// one below, at, and one above the value where the sides are equal. The list
+/// in the middle is accepted. Nothing where no row of the list will do.
+pub fn at_equality(list: &[u64], condition: Condition, seed: u64) -> Option<[Vec<u64>; 3]> {
+    let (rows, settings) = accepted(list)?;
+    let start = Rng::new(seed).below(rows.len() as u64) as usize;
+    (0..rows.len()).find_map(|k| {
+        let at = (start + k) % rows.len();
+        let edge = prepare(&rows, &settings, at, condition)?;
+        let lists = neighbours(edge);
+        let (rows, settings) = accepted(&lists[1])?;
+        is_equal_at(&rows, &settings, at, condition).then_some(lists)
+    })
+}
+
+fn accepted(list: &[u64]) -> Option<(Vec<Row>, Vec<Settings>)> {
+    let mut card = vec![0; CARD_NUMBERS * list.len() / FIELDS];
+    if whole(list, &mut card) != Answer::DONE {
+        return None;
+    }
+    let settings = card.as_chunks::<CARD_NUMBERS>().0.iter().map(Settings::read);
+    Some((list.as_chunks::<FIELDS>().0.iter().map(Row::read).collect(), settings.collect()))
+}
+
+fn neighbours(edge: Edge) -> [Vec<u64>; 3] {
+    [-1, 0, 1].map(|difference| {
+        let mut rows = edge.rows.clone();
+        let value = (edge.field)(&mut rows[edge.moved]);
+        *value = value.wrapping_add_signed(difference);
+        numbers_of(&rows)
+    })
+}
+
+/// Whether the condition stands at equality in the row.
+fn is_equal_at(rows: &[Row], settings: &[Settings], at: usize, condition: Condition) -> bool {
+    let (row, set) = (&rows[at], &settings[at]);
+    let fed = fed_rows(rows, settings, row.row);
+    let equal = |sides: Sides| sides.are_equal();
+    match condition {
+        P1 => equal(returns_after_self_start(row, set.pickup)),
+        P2 => stays_clear_of_fed_rows(row, set.pickup, &fed).any(equal),
+        P3 => equal(sees_own_zone(row, set.pickup)),
+        P4 => backs_up_fed_rows(row, set.pickup, &fed).any(equal),
+        Floor => equal(not_below_floor(row, set.delay)),
+        MotorDelay => not_below_motor_delay(row, set.delay).is_some_and(equal),
+        Ceiling => equal(not_above_ceiling(row, set.delay)),
+        D2 => steps_above_fed_rows(set.delay, &fed).any(equal),
+        CutoffClear => set.cutoff > 0 && equal(cutoff_stays_clear(row, set.cutoff)),
+        CutoffNearLine | CutoffNearOther => {
+            set.cutoff > 0 && equal(cutoff_sees_near(row, set.cutoff))
+        }
+    }
+}
+
+fn prepare(rows: &[Row], settings: &[Settings], at: usize, condition: Condition) -> Option<Edge> {
+    let set = settings[at];
+    let mut rows = rows.to_vec();
+    let fed = fed_rows(&rows, settings, rows[at].row);
+    let row = &mut rows[at];
+    let (moved, field): (usize, Field) = match condition {
+        P1 => (at, prepare_self_start(row, set.pickup)?),
+        P2 => (at, prepare_fed_rows(row, &fed)?),
+        P3 => {
+            row.far = divided(3 * set.pickup, 2)?;
+            (at, |row| &mut row.far)
+        }
+        P4 => prepare_backup(&mut rows, at, set.pickup)?,
+        Floor => {
+            row.floor = set.delay;
+            (at, |row| &mut row.floor)
+        }
+        MotorDelay => {
+            (row.floor, row.ceiling) = (0, 100);
+            (at, |row| &mut row.ceiling)
+        }
+        Ceiling => {
+            row.ceiling = set.delay;
+            (at, |row| &mut row.ceiling)
+        }
+        D2 => prepare_step(&mut rows, at, set.delay, &fed)?,
+        CutoffClear => (at, prepare_clear(row, set.cutoff)?),
+        CutoffNearLine | CutoffNearOther => (at, prepare_near(row, set.cutoff, condition)?),
+    };
+    (*field(&mut rows[moved]) > 0).then_some(Edge { rows, moved, field })
+}
+
+fn divided(value: u64, by: u64) -> Option<u64> {
+    value.is_multiple_of(by).then_some(value / by)
+}
+
+/// With return 880 and self-start 1,600 the sides are equal at pickup 2 × work.
+fn prepare_self_start(row: &mut Row, pickup: u64) -> Option<Field> {
+    (row.return_factor, row.selfstart) = (880, 1_600);
+    row.work = pickup / 2;
+    row.low = 2 * row.work;
+    row.high = row.high.max(row.low + row.step);
+    Some(|row| &mut row.work)
+}
+
+/// Takes the volts of a fed row, so that the pickup asked for may be whole.
+fn prepare_fed_rows(row: &mut Row, fed: &[Fed]) -> Option<Field> {
+    let asked = stays_clear_of_fed_rows(row, 1, fed).map(|sides| sides.lesser).max()?;
+    let asked = u64::try_from(asked).ok()?;
+    let pickup_at = |volts: u64| divided(asked, 10 * volts);
+    let candidates = [row.volts, fed[0].row.volts, fed[fed.len() - 1].row.volts];
+    row.volts = candidates.into_iter().find(|&volts| pickup_at(volts).is_some())?;
+    row.low = pickup_at(row.volts)?;
+    row.high = row.high.max(row.low + row.step);
+    if !returns_after_self_start(row, row.low).hold() {
+        row.work = 1;
+    }
+    Some(|row| &mut row.volts)
+}
+
+fn prepare_backup(rows: &mut [Row], at: usize, pickup: u64) -> Option<(usize, Field)> {
+    let (place, volts) = (rows[at].row, rows[at].volts);
+    let far = |below: &Row| divided(12 * pickup * volts, 10 * below.volts);
+    let right = |below: &Row| below.feeds_from == place && far(below).is_some();
+    let fed = rows.iter().position(right)?;
+    rows[fed].far = far(&rows[fed])?;
+    rows[fed].backed = 1;
+    Some((fed, |row| &mut row.far))
+}
+
+fn prepare_step(rows: &mut [Row], at: usize, delay: u64, fed: &[Fed]) -> Option<(usize, Field)> {
+    let decides = |below: &&Fed| below.settings.delay + step_above(&below.row) == delay;
+    let below = fed.iter().find(decides)?;
+    let moved = below.row.row as usize - 1;
+    rows[at].ceiling = delay;
+    rows[moved].floor = below.settings.delay;
+    Some((moved, |row| &mut row.floor))
+}
+
+fn prepare_clear(row: &mut Row, cutoff: u64) -> Option<Field> {
+    let exact = |factor: &u64| divided(1_000 * cutoff, *factor).is_some();
+    row.factor = [row.factor, 1_250, 2_000, 1_000].into_iter().find(exact)?;
+    row.clear = divided(1_000 * cutoff, row.factor)?;
+    Some(|row| &mut row.clear)
+}
+
+fn prepare_near(row: &mut Row, cutoff: u64, condition: Condition) -> Option<Field> {
+    if (row.kind == LINE) != (condition == CutoffNearLine) {
+        return None;
+    }
+    row.near = if row.kind == LINE { divided(12 * cutoff, 10)? } else { 2 * cutoff };
+    Some(|row| &mut row.near)
+}

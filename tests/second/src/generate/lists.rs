@@ -1,0 +1,201 @@
+//! Plausible lists: trees, chains and stars, walked from the far end with the
+//! least settings so far, so that margins can be laid on each condition.
+
+use super::Rng;
+use crate::conditions::{stays_clear_of_fed_rows, Fed};
+use crate::row::*;
+use crate::whole::{fed_rows, settle, Settings};
+
+#[derive(Clone, Copy, Debug, PartialEq, Eq)]
+pub enum Shape {
+    /// Each row fed by any later one.
+    Tree,
+    /// Each row fed by one of the next few.
+    Deep,
+    Chain,
+    Star,
+}
+
+pub const SHAPES: [Shape; 4] = [Shape::Tree, Shape::Deep, Shape::Chain, Shape::Star];
+
+/// What a list is made to fail by, at one row.
+#[derive(Clone, Copy, PartialEq, Eq)]
+enum Fault {
+    Zone,
+    Backup,
+    Range,
+    Ceiling,
+}
+
+/// A list of any shape and length; about half are accepted.
+pub fn list(seed: u64) -> Vec<u64> {
+    let mut rng = Rng::new(seed);
+    let shape = rng.pick(&SHAPES);
+    let most = rng.pick(&[1, 3, 8, 8, 40, 40, MOST_ROWS as u64]);
+    let count = if rng.chance(3) { MOST_ROWS as u64 } else { rng.between(1, most) };
+    list_shaped(shape, count, rng.any())
+}
+
+pub fn list_shaped(shape: Shape, count: u64, seed: u64) -> Vec<u64> {
+    let mut rng = Rng::new(seed);
+    let feeders = feeders(&mut rng, shape, count);
+    let depth = depth(&feeders);
+    let faults = [Fault::Zone, Fault::Backup, Fault::Range, Fault::Ceiling];
+    let fault = rng.chance(65).then(|| (rng.between(1, count), rng.pick(&faults)));
+    let (mut rows, mut settings) = (Vec::new(), Vec::new());
+    for (place, &feeds_from) in (1..).zip(&feeders) {
+        let is_leaf = !feeders.contains(&place);
+        let fed = fed_rows(&rows, &settings, place);
+        let fault = fault.filter(|&(row, _)| row == place).map(|(_, fault)| fault);
+        let mut row = draft(&mut rng, depth, is_leaf, &fed);
+        (row.row, row.feeds_from) = (place, feeds_from);
+        let set = lay_margins(&mut rng, &mut row, &fed, fault);
+        for below in rows.iter_mut().filter(|below: &&mut Row| below.feeds_from == place) {
+            lay_backup(&mut rng, below, &row, set.pickup, fault);
+        }
+        rows.push(row);
+        settings.push(set);
+    }
+    rows[feeders.len() - 1].backed = rng.below(2);
+    numbers_of(&rows)
+}
+
+pub fn feeders(rng: &mut Rng, shape: Shape, count: u64) -> Vec<u64> {
+    let reach = rng.between(2, 8);
+    let feeder = |place: u64, rng: &mut Rng| match shape {
+        Shape::Tree => rng.between(place + 1, count),
+        Shape::Deep => rng.between(place + 1, count.min(place + reach)),
+        Shape::Chain => place + 1,
+        Shape::Star => count,
+    };
+    (1..count).map(|place| feeder(place, rng)).chain([0]).collect()
+}
+
+/// Rows on the longest path.
+fn depth(feeders: &[u64]) -> u64 {
+    let mut lengths = vec![0; feeders.len() + 1];
+    for (place, &feeder) in feeders.iter().enumerate().rev() {
+        lengths[place + 1] = lengths[feeder as usize] + 1;
+    }
+    lengths.into_iter().max().unwrap_or(0)
+}
+
+/// Pickup × volts that P2 asks for.
+fn asked(fed: &[Fed]) -> u64 {
+    let any_row = Row::read(&[1; FIELDS]);
+    let sides = stays_clear_of_fed_rows(&any_row, 1, fed);
+    let most = sides.map(|sides| sides.lesser.div_ceil(10)).max().unwrap_or(0);
+    u64::try_from(most).expect("fields in range")
+}
+
+/// A row before its margins, with the widest bounds.
+fn draft(rng: &mut Rng, depth: u64, is_leaf: bool, fed: &[Fed]) -> Row {
+    let kind = if is_leaf { rng.between(LINE, MOTOR) } else { rng.between(LINE, TRANSFORMER) };
+    let is_long = depth > 40;
+    let (volts, work, step) = if is_long { lean(rng, depth, fed) } else { ample(rng, fed) };
+    let selfstart = if is_long { 1_000 } else { 100 * rng.between(10, 30) };
+    let return_factor = if is_long { 1_000 } else { rng.pick(&[935, 935, 950, 1_000, 880, 817]) };
+    let bound = 11 * selfstart * work / (10 * return_factor);
+    let low = if rng.chance(70) { rng.between(1, bound.max(2) / 2) } else { bound };
+    Row {
+        row: 0,
+        feeds_from: 0,
+        kind,
+        volts,
+        work,
+        selfstart,
+        return_factor,
+        far: MOST_CURRENT,
+        clear: 1,
+        near: 1,
+        factor: rng.pick(&[1_000, 1_200, 1_250, 1_300, 1_999, 2_000]),
+        low: if step >= 10 { low.next_multiple_of(10) } else { low }.clamp(1, MOST_CURRENT),
+        high: MOST_CURRENT,
+        step,
+        device: if depth > 150 { 3 } else { rng.between(1, 3) },
+        floor: if is_leaf { 100 * rng.between(0, 20) } else { rng.pick(&[0, 0, 0, 1, 700]) },
+        ceiling: MOST_DELAY,
+        backed: 0,
+    }
+}
+
+/// Volts, work and step of an ordinary row, fed rows at the same volts or lower.
+fn ample(rng: &mut Rng, fed: &[Fed]) -> (u64, u64, u64) {
+    const STANDARD: [u64; 7] = [380, 400, 6_000, 10_000, 35_000, 110_000, 500_000];
+    let step = rng.pick(&[1, 10, 100, 1_000, 1_000, 5_000]);
+    let round = |work: u64| if work > 20_000 { work / 1_000 * 1_000 } else { work.max(1) };
+    if fed.is_empty() {
+        let volts = rng.pick(&STANDARD[..5]);
+        let power = rng.between(1, 1_000) * rng.pick(&[1_000, 100_000, 1_000_000]);
+        return (volts, round(power / volts), step);
+    }
+    let asked = asked(fed);
+    let fits = |volts: u64| asked / volts < 20_000_000;
+    let greatest = fed.iter().map(|below| below.row.volts).max().unwrap_or(0);
+    let risen = STANDARD.into_iter().find(|&volts| volts > greatest && fits(volts));
+    let stays = fits(greatest) && rng.chance(65);
+    let volts = if stays { greatest } else { risen.unwrap_or(500_000) };
+    let work = asked / volts * rng.between(20, 60) / 100;
+    (volts, round(work), step)
+}
+
+/// On a long path pickup × volts grows 1.1 times a row, from little to the
+/// greatest there is, and nothing is lost to rounding.
+fn lean(rng: &mut Rng, depth: u64, fed: &[Fed]) -> (u64, u64, u64) {
+    if fed.is_empty() {
+        let spare = 260_u64.saturating_sub(depth) * 2 / 3;
+        let rows = rng.between(0, spare);
+        let product = (0..rows).fold(200_u64, |product, _| product * 11 / 10).min(1_000_000_000);
+        let pickup = product.div_ceil(500_000).max(2);
+        return ((product / pickup).max(100), (pickup * 10 / 11).max(1), 1);
+    }
+    let asked = asked(fed);
+    let pickup = asked.div_ceil(500_000).max(2);
+    let work = rng.between(1, (pickup / 2).max(1));
+    (asked.div_ceil(pickup).clamp(100, 500_000), work, 1)
+}
+
+/// Sets all but backup to hold with a margin, often of nothing, save the fault.
+fn lay_margins(rng: &mut Rng, row: &mut Row, fed: &[Fed], fault: Option<Fault>) -> Settings {
+    let widest = Settings { pickup: row.high, delay: row.ceiling, cutoff: 0 };
+    let set = settle(row, fed).unwrap_or(widest);
+    let most = |current: u64| current.clamp(1, MOST_CURRENT);
+    row.far = most(over(rng, (3 * set.pickup).div_ceil(2)));
+    row.clear = most(set.pickup * rng.between(1, 8));
+    row.high = most(set.pickup.max(row.clear * rng.between(5, 40) / 10));
+    let bound = (row.factor * row.clear).div_ceil(1_000);
+    let cutoff = row.low + bound.saturating_sub(row.low).div_ceil(row.step) * row.step;
+    row.near = most(cutoff * rng.pick(&[10, 12, 12, 13, 20, 20, 30]) / 10);
+    row.ceiling = over(rng, set.delay).min(MOST_DELAY);
+    match fault {
+        Some(Fault::Zone) => row.far = most((3 * set.pickup).div_ceil(2) - 1),
+        Some(Fault::Range) => row.high = set.pickup.saturating_sub(1).max(row.low),
+        Some(Fault::Ceiling) => row.ceiling = set.delay.saturating_sub(1),
+        _ => {}
+    }
+    set
+}
+
+/// A value at or above the bound.
+fn over(rng: &mut Rng, bound: u64) -> u64 {
+    bound * rng.pick(&[100, 100, 105, 130, 200, 300]) / 100
+}
+
+/// The far that P4 asks of a fed row.
+pub fn backup_bound(below: &Row, row: &Row, pickup: u64) -> u64 {
+    (12 * pickup * row.volts).div_ceil(10 * below.volts)
+}
+
+/// Leaves a fed row without backup, or raises its far to what P4 asks.
+fn lay_backup(rng: &mut Rng, below: &mut Row, row: &Row, pickup: u64, fault: Option<Fault>) {
+    let bound = backup_bound(below, row, pickup);
+    if fault == Some(Fault::Backup) {
+        below.backed = 1;
+        below.far = below.far.min(bound - 1);
+    } else if bound <= below.far {
+        below.backed = rng.below(2);
+    } else if bound <= MOST_CURRENT && rng.chance(60) {
+        below.backed = 1;
+        below.far = over(rng, bound).min(MOST_CURRENT);
+    }
+}

@@ -1,0 +1,135 @@
+//! Replacements: changes that go, refused ones of every kind, and series of
+//! them [01 §4].
+
+use super::damage::{damaged, lent_card};
+use super::lists::list;
+use super::Rng;
+use crate::replace::Ledger;
+use crate::row::*;
+use crate::whole::{whole, Answer};
+
+/// A place and the new row for it.
+#[derive(Clone, Debug)]
+pub struct Change {
+    pub place: u64,
+    pub row: Vec<u64>,
+}
+
+/// All that one replacement is lent.
+#[derive(Clone, Debug)]
+pub struct Replacement {
+    pub list: Vec<u64>,
+    pub card: Vec<u64>,
+    pub change: Change,
+}
+
+/// Changes to an accepted list, each made for the list as the ones before left it.
+pub fn series(list: &[u64], length: usize, seed: u64) -> Vec<Change> {
+    let mut rng = Rng::new(seed);
+    let mut ledger = Ledger::new(list);
+    let step = |_| {
+        let change = change(ledger.list(), rng.any());
+        ledger.feed(change.place, &change.row);
+        change
+    };
+    (0..length).map(step).collect()
+}
+
+/// A change to one row of the list, at times one to be refused.
+pub fn change(list: &[u64], seed: u64) -> Change {
+    let mut rng = Rng::new(seed);
+    let rows = list.as_chunks::<FIELDS>().0;
+    if rows.is_empty() {
+        return Change { place: rng.below(2), row: lent_card(FIELDS, rng.any()) };
+    }
+    let old = rng.pick(rows);
+    let place = old[0];
+    let mut row = Row::read(&old);
+    match rng.below(20) {
+        0..=2 => return wrong_edit(&mut rng, rows.len() as u64, row),
+        3 => return Change { place, row: out_of_range(&mut rng, old) },
+        4 => row.kind = MOTOR,
+        5 => row.far = row.far.min(rng.pick(&[1, row.low, row.low.saturating_mul(3) / 2])),
+        6 => row.work = row.work.saturating_mul(rng.between(2, 9)).min(MOST_CURRENT),
+        7 => row.ceiling = rng.below(row.ceiling.min(MOST_DELAY) + 1),
+        8 => row.floor = row.ceiling.saturating_add(1).min(MOST_DELAY),
+        9 => {}
+        _ => return Change { place, row: nudged(&mut rng, old) },
+    }
+    Change { place, row: row.numbers().to_vec() }
+}
+
+/// EDIT by the place, by field 1, by field 2, or by the length of the row.
+fn wrong_edit(rng: &mut Rng, count: u64, row: Row) -> Change {
+    let mut change = Change { place: row.row, row: row.numbers().to_vec() };
+    match rng.below(6) {
+        0 => change.place = rng.pick(&[0, count + 1, u64::MAX]),
+        1 => change.place = change.place % count + 1,
+        2 => change.row[0] = rng.pick(&[0, change.place.wrapping_add(1), u64::MAX]),
+        3 => change.row[1] = rng.pick(&[change.row[1].wrapping_add(1), 0, u64::MAX]),
+        4 => change.row.truncate(rng.below(FIELDS as u64) as usize),
+        _ => change.row.push(rng.below(2)),
+    }
+    change
+}
+
+fn out_of_range(rng: &mut Rng, mut row: [u64; FIELDS]) -> Vec<u64> {
+    let at = rng.between(2, FIELDS as u64 - 1) as usize;
+    let Bound { least, greatest, .. } = BOUNDS[at];
+    row[at] = rng.pick(&[least.wrapping_sub(1), greatest + 1, u64::MAX]);
+    if rng.chance(20) {
+        row[LOW as usize - 1] = row[LOW as usize].saturating_add(1);
+    }
+    row.to_vec()
+}
+
+/// One or two fields past the second moved a little or by a factor.
+fn nudged(rng: &mut Rng, mut row: [u64; FIELDS]) -> Vec<u64> {
+    for _ in 0..rng.between(1, 2) {
+        let at = rng.between(2, FIELDS as u64 - 1) as usize;
+        let (value, bound) = (row[at].min(BOUNDS[at].greatest), BOUNDS[at]);
+        let moved = rng.pick(&[
+            value + 1,
+            value.saturating_sub(1),
+            value * 101 / 100,
+            value * 99 / 100,
+            value * 11 / 10,
+            value * 9 / 10,
+        ]);
+        row[at] = moved.clamp(bound.least, bound.greatest);
+    }
+    row.to_vec()
+}
+
+/// A replacement on any list with any card.
+pub fn replacement(seed: u64) -> Replacement {
+    let mut rng = Rng::new(seed);
+    let list = if rng.chance(80) { list(rng.any()) } else { damaged(rng.any()).list };
+    let room = CARD_NUMBERS * list.len() / FIELDS;
+    let mut card: Vec<u64> = (0..room)
+        .map(|at| rng.between(1, if at % CARD_NUMBERS == 1 { 3_000 } else { 1_000_000 }))
+        .collect();
+    let own = whole(&list, &mut card) == Answer::DONE;
+    if room > 0 && rng.chance(if own { 70 } else { 20 }) {
+        disturb(&mut rng, &mut card);
+    }
+    match rng.below(10) {
+        0 => card.truncate(room - room.min(rng.between(1, 4) as usize)),
+        1 | 2 => card.extend(lent_card(rng.between(1, 5) as usize, rng.any())),
+        _ => {}
+    }
+    let change = change(&list, rng.any());
+    Replacement { list, card, change }
+}
+
+/// Some card numbers moved, at times out of their bounds.
+fn disturb(rng: &mut Rng, card: &mut [u64]) {
+    let in_bounds = rng.chance(70);
+    for _ in 0..rng.between(1, 4) {
+        let at = rng.below(card.len() as u64) as usize;
+        let Bound { least, greatest, .. } = CARD_BOUNDS[at % CARD_NUMBERS];
+        let near = (card[at].min(greatest) * rng.between(50, 150) / 100).clamp(least, greatest);
+        let out = rng.pick(&[least.wrapping_sub(1), greatest + 1, u64::MAX]);
+        card[at] = if in_bounds { rng.pick(&[near, near, least, greatest]) } else { out };
+    }
+}

@@ -1,0 +1,75 @@
+//! Lists of one to three rows with few available values, for trying every
+//! combination.
+
+use super::lists::{backup_bound, feeders, Shape};
+use super::Rng;
+use crate::conditions::Fed;
+use crate::row::*;
+use crate::whole::{fed_rows, settle, Settings};
+
+pub fn tiny(seed: u64) -> Vec<u64> {
+    let mut rng = Rng::new(seed);
+    let count = rng.between(1, 3);
+    let feeders = feeders(&mut rng, Shape::Tree, count);
+    let (mut rows, mut settings) = (Vec::<Row>::new(), Vec::new());
+    for (place, &feeds_from) in (1..).zip(&feeders) {
+        let most = if feeders.contains(&place) { TRANSFORMER } else { MOTOR };
+        let fed = fed_rows(&rows, &settings, place);
+        let mut row = draft(&mut rng, most);
+        (row.row, row.feeds_from) = (place, feeds_from);
+        let set = narrow(&mut rng, &mut row, &fed);
+        for below in rows.iter_mut().filter(|below| below.feeds_from == place) {
+            back_up(&mut rng, below, backup_bound(below, &row, set.pickup));
+        }
+        rows.push(row);
+        settings.push(set);
+    }
+    numbers_of(&rows)
+}
+
+fn draft(rng: &mut Rng, most_kind: u64) -> Row {
+    Row {
+        row: 0,
+        feeds_from: 0,
+        kind: rng.between(LINE, most_kind),
+        volts: rng.pick(&[100, 100, 110, 220]),
+        work: rng.between(1, 20),
+        selfstart: rng.pick(&[1_000, 1_000, 1_600, 2_000]),
+        return_factor: rng.pick(&[800, 880, 935, 1_000]),
+        far: MOST_CURRENT,
+        clear: rng.between(1, 80),
+        near: rng.between(1, 160),
+        factor: rng.pick(&[1_000, 1_250, 1_300, 2_000]),
+        low: rng.between(1, 20),
+        high: MOST_CURRENT,
+        step: rng.between(1, 6),
+        device: rng.between(1, 3),
+        floor: rng.pick(&[0, 1, 99, 101, 200, 300, 500]),
+        ceiling: MOST_DELAY,
+        backed: 0,
+    }
+}
+
+/// Leaves at most four pickups and five delays about the least ones; far is just
+/// enough, just too little, or ample.
+fn narrow(rng: &mut Rng, row: &mut Row, fed: &[Fed]) -> Settings {
+    let set = settle(row, fed).expect("the widest bounds");
+    let below = rng.below(3) * row.step;
+    if set.pickup > below {
+        row.low = set.pickup - below;
+    }
+    row.high = row.low + rng.pick(&[0, 1, 2, 2, 3, 3]) * row.step + rng.below(row.step);
+    row.far = (3 * set.pickup / 2).max(2) + rng.below(6) - 1 + rng.pick(&[0, set.pickup]);
+    row.floor = row.floor.max(set.delay.saturating_sub(rng.below(3)));
+    row.ceiling = (set.delay + rng.below(4)).saturating_sub(rng.below(2));
+    set
+}
+
+/// Asks for backup with far just enough, just too little, or as it is.
+fn back_up(rng: &mut Rng, below: &mut Row, bound: u64) {
+    below.backed = u64::from(rng.chance(70));
+    let far = (bound + rng.below(4)).saturating_sub(1);
+    if rng.chance(60) && far > below.far {
+        below.far = far;
+    }
+}

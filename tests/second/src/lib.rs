@@ -1,0 +1,13 @@
+//! The second program: everything in sections 2 to 6 of document 01 worked out
+//! again from the document alone, plainly and slowly, for comparison.
+
+pub mod answer;
+pub mod brute;
+pub mod conditions;
+pub mod fast;
+pub mod generate;
+pub mod replace;
+pub mod row;
+pub mod study;
+pub mod text;
+pub mod whole;

@@ -1,0 +1,139 @@
+//! One row of a list, and the tests on the list itself [01 §2, §4]:
+//! COUNT, ROOM, FIELD and TREE.
+
+use crate::answer::{Answer, COUNT, ROOM, TREE};
+
+pub const MOST_ROWS: usize = 256;
+pub const MOST_CURRENT: u64 = 100_000_000;
+pub const MOST_DELAY: u64 = 100_000;
+
+pub const LINE: u64 = 1;
+pub const TRANSFORMER: u64 = 2;
+pub const MOTOR: u64 = 3;
+
+/// Column name and own range.
+#[derive(Clone, Copy)]
+pub struct Bound {
+    pub column: &'static str,
+    pub least: u64,
+    pub greatest: u64,
+}
+
+impl Bound {
+    pub fn holds(&self, value: u64) -> bool {
+        (self.least..=self.greatest).contains(&value)
+    }
+}
+
+/// The table of section 2 makes the row, its numbers and their bounds.
+macro_rules! fields {
+    ($($name:ident $column:literal $least:literal $greatest:expr;)*) => {
+        #[derive(Clone, Copy, Debug, PartialEq, Eq)]
+        pub struct Row {
+            $(pub $name: u64,)*
+        }
+
+        pub const FIELDS: usize = [$($column),*].len();
+
+        pub const BOUNDS: [Bound; FIELDS] = [
+            $(Bound { column: $column, least: $least, greatest: $greatest },)*
+        ];
+
+        impl Row {
+            pub fn read(numbers: &[u64; FIELDS]) -> Row {
+                let [$($name),*] = *numbers;
+                Row { $($name),* }
+            }
+
+            pub fn numbers(&self) -> [u64; FIELDS] {
+                [$(self.$name),*]
+            }
+        }
+    };
+}
+
+fields! {
+    row "row" 1 MOST_ROWS as u64;
+    feeds_from "feeds_from" 0 MOST_ROWS as u64;
+    kind "kind" 1 MOTOR;
+    volts "volts" 100 500_000;
+    work "work" 1 MOST_CURRENT;
+    selfstart "selfstart" 1_000 10_000;
+    return_factor "return" 800 1_000;
+    far "far" 1 MOST_CURRENT;
+    clear "clear" 1 MOST_CURRENT;
+    near "near" 1 MOST_CURRENT;
+    factor "factor" 1_000 2_000;
+    low "low" 1 MOST_CURRENT;
+    high "high" 1 MOST_CURRENT;
+    step "step" 1 MOST_CURRENT;
+    device "device" 1 3;
+    floor "floor" 0 MOST_DELAY;
+    ceiling "ceiling" 0 MOST_DELAY;
+    backed "backed" 0 1;
+}
+
+/// The field named where low is above high.
+pub const LOW: u64 = 12;
+
+/// The columns of a card row with the bounds of CARD.
+pub const CARD_BOUNDS: [Bound; 3] = [
+    Bound { column: "pickup", least: 1, greatest: MOST_CURRENT },
+    Bound { column: "delay", least: 0, greatest: MOST_DELAY },
+    Bound { column: "cutoff", least: 0, greatest: MOST_CURRENT },
+];
+pub const CARD_NUMBERS: usize = CARD_BOUNDS.len();
+
+/// COUNT, then ROOM; the number of rows where both are passed.
+pub fn count_and_room(list_length: usize, card_length: usize) -> Result<usize, Answer> {
+    let count = list_length / FIELDS;
+    if !list_length.is_multiple_of(FIELDS) || count == 0 || count > MOST_ROWS {
+        return Err(Answer::at(COUNT, 0));
+    }
+    if card_length < CARD_NUMBERS * count {
+        return Err(Answer::at(ROOM, 0));
+    }
+    Ok(count)
+}
+
+/// FIELD over all rows, then TREE over all rows.
+pub fn read_list(list: &[u64]) -> Result<Vec<Row>, Answer> {
+    let numbers = list.as_chunks::<FIELDS>().0;
+    for (place, row) in (1..).zip(numbers) {
+        if let Some(field) = faulty_field(place, row) {
+            return Err(Answer::field(place, field));
+        }
+    }
+    let rows: Vec<Row> = numbers.iter().map(Row::read).collect();
+    match rows.iter().find(|row| !feeder_is_right(&rows, row)) {
+        Some(fed) => Err(Answer::at(TREE, fed.row)),
+        None => Ok(rows),
+    }
+}
+
+fn faulty_field(place: u64, numbers: &[u64; FIELDS]) -> Option<u64> {
+    for (field, (&value, bound)) in (1..).zip(numbers.iter().zip(&BOUNDS)) {
+        let right = if field == 1 { value == place } else { bound.holds(value) };
+        if !right {
+            return Some(field);
+        }
+    }
+    let row = Row::read(numbers);
+    (row.low > row.high).then_some(LOW)
+}
+
+/// The last row is fed by the source, every other by a later row, never by a motor.
+fn feeder_is_right(rows: &[Row], fed: &Row) -> bool {
+    let count = rows.len() as u64;
+    if fed.row == count {
+        return fed.feeds_from == 0;
+    }
+    fed.row < fed.feeds_from
+        && fed.feeds_from <= count
+        && rows[fed.feeds_from as usize - 1].kind != MOTOR
+}
+
+/// A list as numbers.
+pub fn numbers_of(rows: &[Row]) -> Vec<u64> {
+    rows.iter().flat_map(Row::numbers).collect()
+}

@@ -1,0 +1,131 @@
+//! The text of a list and of its card [01 §6].
+
+use crate::answer::{Answer, TEXT};
+use crate::row::{BOUNDS, CARD_BOUNDS, CARD_NUMBERS, FIELDS};
+use crate::whole::whole;
+
+pub const MOST_BYTES: usize = 65_536;
+const MOST_DIGITS: usize = 9;
+const MOST_NAME: usize = 24;
+
+/// The bytes the program `card` prints for the bytes it reads.
+pub fn card(text: &[u8]) -> Vec<u8> {
+    match read(text).and_then(|(names, list)| print_card(&names, &list)) {
+        Ok(printed) => printed,
+        Err(refusal) => print_refusal(refusal),
+    }
+}
+
+/// The header: the fields of section 2 with "name" after "row".
+pub fn header() -> String {
+    let mut columns: Vec<&str> = BOUNDS.iter().map(|bound| bound.column).collect();
+    columns.insert(1, "name");
+    columns.join(",")
+}
+
+fn print_card(names: &[&[u8]], list: &[u64]) -> Result<Vec<u8>, Answer> {
+    let mut card = vec![0; CARD_NUMBERS * names.len()];
+    let answer = whole(list, &mut card);
+    if answer != Answer::DONE {
+        return Err(answer);
+    }
+    let mut printed = b"name".to_vec();
+    for bound in &CARD_BOUNDS {
+        printed.extend_from_slice(format!(",{}", bound.column).as_bytes());
+    }
+    for (name, numbers) in names.iter().zip(card.chunks_exact(CARD_NUMBERS)) {
+        printed.extend_from_slice(b"\r\n");
+        printed.extend_from_slice(name);
+        for number in numbers {
+            printed.extend_from_slice(format!(",{number}").as_bytes());
+        }
+    }
+    printed.extend_from_slice(b"\r\n");
+    Ok(printed)
+}
+
+fn print_refusal(refusal: Answer) -> Vec<u8> {
+    let Answer { number, place, field } = refusal;
+    format!("refused,place,field\r\n{number},{place},{field}\r\n").into_bytes()
+}
+
+/// Names and list of a well-formed text, however many its rows; otherwise TEXT.
+fn read(text: &[u8]) -> Result<(Vec<&[u8]>, Vec<u64>), Answer> {
+    if text.len() > MOST_BYTES {
+        return Err(Answer::at(TEXT, 0));
+    }
+    let (mut names, mut list) = (Vec::new(), Vec::new());
+    for (line, bytes) in (1..).zip(lines(text)) {
+        if line == 1 && bytes == header().as_bytes() {
+            continue;
+        }
+        let row = if line == 1 { None } else { read_row(bytes) };
+        let (name, numbers) = row.ok_or(Answer::at(TEXT, line))?;
+        names.push(name);
+        list.extend(numbers);
+    }
+    Ok((names, list))
+}
+
+/// Lines end at CRLF; the last one may lack it. An empty text has one empty line.
+fn lines(text: &[u8]) -> Vec<&[u8]> {
+    let mut lines = Vec::new();
+    let mut rest = text;
+    while let Some(end) = rest.windows(2).position(|pair| pair == b"\r\n") {
+        lines.push(&rest[..end]);
+        rest = &rest[end + 2..];
+    }
+    if !rest.is_empty() || lines.is_empty() {
+        lines.push(rest);
+    }
+    lines
+}
+
+/// Name and numbers of one line, or nothing if the line is bad.
+fn read_row(line: &[u8]) -> Option<(&[u8], Vec<u64>)> {
+    let first_comma = line.iter().position(|&byte| byte == b',')?;
+    let (place, rest) = (&line[..first_comma], &line[first_comma + 1..]);
+    let length = name_length(rest)?;
+    let (name, rest) = rest.split_at(length);
+    let others = rest.strip_prefix(b",")?.split(|&byte| byte == b',');
+    let numbers: Option<Vec<u64>> = std::iter::once(place).chain(others).map(number).collect();
+    numbers.filter(|numbers| numbers.len() == FIELDS).map(|numbers| (name, numbers))
+}
+
+/// Length, as it stands, of the name that `rest` begins with.
+fn name_length(rest: &[u8]) -> Option<usize> {
+    let length = if rest.first() == Some(&b'"') {
+        quoted_length(rest)?
+    } else {
+        rest.iter().position(|&byte| byte == b',' || !is_plain(byte))?
+    };
+    (1..=MOST_NAME).contains(&length).then_some(length)
+}
+
+/// From the opening quote to the first quote that is not doubled.
+fn quoted_length(rest: &[u8]) -> Option<usize> {
+    let mut at = 1;
+    loop {
+        match (rest.get(at)?, rest.get(at + 1)) {
+            (b'"', Some(b'"')) => at += 2,
+            (b'"', _) => return Some(at + 1),
+            (&byte, _) if byte == b',' || is_plain(byte) => at += 1,
+            _ => return None,
+        }
+    }
+}
+
+/// Bytes 32 to 126 but no quote or comma.
+fn is_plain(byte: u8) -> bool {
+    (32..=126).contains(&byte) && byte != b'"' && byte != b','
+}
+
+/// One to nine digits, no leading zero but 0 itself.
+fn number(digits: &[u8]) -> Option<u64> {
+    let sized = (1..=MOST_DIGITS).contains(&digits.len());
+    let leading_zero = digits.len() > 1 && digits[0] == b'0';
+    if !sized || leading_zero || !digits.iter().all(u8::is_ascii_digit) {
+        return None;
+    }
+    std::str::from_utf8(digits).ok()?.parse().ok()
+}

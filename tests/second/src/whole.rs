@@ -1,0 +1,122 @@
+//! The whole calculation [01 §4].
+//!
+//! P1, P2, D2, the floor and the cutoff's clearance stay true when the value
+//! rises, P3, P4 and the ceiling when it falls. So the least value for the
+//! first group is the one to test against the second.
+
+pub use crate::answer::Answer;
+use crate::answer::{DELAY, PICKUP};
+use crate::conditions::*;
+use crate::row::{count_and_room, read_list, Row, CARD_NUMBERS, MOST_DELAY};
+
+/// A card row; cutoff 0 is not fitted.
+#[derive(Clone, Copy, Debug, PartialEq, Eq)]
+pub struct Settings {
+    pub pickup: u64,
+    pub delay: u64,
+    pub cutoff: u64,
+}
+
+impl Settings {
+    pub fn read(numbers: &[u64; CARD_NUMBERS]) -> Settings {
+        let [pickup, delay, cutoff] = *numbers;
+        Settings { pickup, delay, cutoff }
+    }
+
+    pub fn numbers(&self) -> [u64; CARD_NUMBERS] {
+        [self.pickup, self.delay, self.cutoff]
+    }
+}
+
+/// Writes the card where the list is accepted.
+pub fn whole(list: &[u64], card: &mut [u64]) -> Answer {
+    match settle_list(list, card.len()) {
+        Ok(settings) => {
+            write_card(&settings, card);
+            Answer::DONE
+        }
+        Err(refusal) => refusal,
+    }
+}
+
+fn settle_list(list: &[u64], card_length: usize) -> Result<Vec<Settings>, Answer> {
+    count_and_room(list.len(), card_length)?;
+    let rows = read_list(list)?;
+    let mut settings = Vec::new();
+    for row in &rows {
+        let fed = fed_rows(&rows, &settings, row.row);
+        let set = settle(row, &fed).map_err(|number| Answer::at(number, row.row))?;
+        settings.push(set);
+    }
+    Ok(settings)
+}
+
+/// Puts card rows into the lent card; numbers past them stay.
+pub fn write_card(settings: &[Settings], card: &mut [u64]) {
+    for (numbers, set) in card.chunks_exact_mut(CARD_NUMBERS).zip(settings) {
+        numbers.copy_from_slice(&set.numbers());
+    }
+}
+
+/// The rows that the row at `place` feeds directly, with their settings.
+pub fn fed_rows(rows: &[Row], settings: &[Settings], place: u64) -> Vec<Fed> {
+    let pairs = rows.iter().zip(settings);
+    pairs
+        .filter(|(row, _)| row.feeds_from == place)
+        .map(|(&row, &settings)| Fed { row, settings })
+        .collect()
+}
+
+/// The least settings of one row above the given fed rows, or PICKUP or DELAY.
+pub fn settle(row: &Row, fed: &[Fed]) -> Result<Settings, u64> {
+    let pickup = least_pickup(row, fed).ok_or(PICKUP)?;
+    let delay = least_delay(row, fed).ok_or(DELAY)?;
+    let cutoff = fitted_cutoff(row).unwrap_or(0);
+    Ok(Settings { pickup, delay, cutoff })
+}
+
+fn least_pickup(row: &Row, fed: &[Fed]) -> Option<u64> {
+    let least = least_available(row, |pickup| {
+        returns_after_self_start(row, pickup).hold()
+            && stays_clear_of_fed_rows(row, pickup, fed).all(|sides| sides.hold())
+    });
+    least.filter(|&pickup| {
+        sees_own_zone(row, pickup).hold()
+            && backs_up_fed_rows(row, pickup, fed).all(|sides| sides.hold())
+    })
+}
+
+fn least_delay(row: &Row, fed: &[Fed]) -> Option<u64> {
+    let least = least_step(MOST_DELAY, |delay| {
+        not_below_floor(row, delay).hold()
+            && not_below_motor_delay(row, delay).is_none_or(|sides| sides.hold())
+            && steps_above_fed_rows(delay, fed).all(|sides| sides.hold())
+    });
+    least.filter(|&delay| not_above_ceiling(row, delay).hold())
+}
+
+fn fitted_cutoff(row: &Row) -> Option<u64> {
+    let least = least_available(row, |cutoff| cutoff_stays_clear(row, cutoff).hold());
+    least.filter(|&cutoff| cutoff_sees_near(row, cutoff).hold())
+}
+
+/// The least of low, low + step, .. up to high where `holds`.
+fn least_available(row: &Row, holds: impl Fn(u64) -> bool) -> Option<u64> {
+    let available = |step| row.low + step * row.step;
+    let last = (row.high - row.low) / row.step;
+    least_step(last, |step| holds(available(step))).map(available)
+}
+
+/// The least number from 0 to `last` where `holds`, which stays true once it is.
+fn least_step(last: u64, holds: impl Fn(u64) -> bool) -> Option<u64> {
+    let (mut from, mut to) = (0, last + 1);
+    while from < to {
+        let middle = (from + to) / 2;
+        if holds(middle) {
+            to = middle;
+        } else {
+            from = middle + 1;
+        }
+    }
+    (from <= last).then_some(from)
+}

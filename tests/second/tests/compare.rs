@@ -1,0 +1,186 @@
+//! The oracle against every combination, the linear version and the ledger,
+//! over generated cases; each failure prints its seed.
+
+use second::answer::{Answer, DELAY, DONE, PICKUP, STUDY};
+use second::generate::*;
+use second::replace::{replace, Ledger};
+use second::row::{Row, CARD_NUMBERS, FIELDS, MOST_CURRENT};
+use second::study::{study, Reading, Unit};
+use second::whole::whole;
+use second::{brute, fast};
+use std::collections::BTreeMap;
+
+/// Oracle and linear version on the same list and card; what they leave must agree.
+fn both(lent: &Lent, seed: u64) -> (Answer, Vec<u64>) {
+    let (mut card, mut fast_card) = (lent.card.clone(), lent.card.clone());
+    let answer = whole(&lent.list, &mut card);
+    assert_eq!(answer, fast::whole(&lent.list, &mut fast_card), "seed {seed}");
+    assert_eq!(card, fast_card, "seed {seed}");
+    let written = if answer == Answer::DONE { CARD_NUMBERS * lent.list.len() / FIELDS } else { 0 };
+    assert_eq!(card[written..], lent.card[written..], "seed {seed}");
+    (answer, card)
+}
+
+fn lent(list: Vec<u64>) -> Lent {
+    let card = lent_card(CARD_NUMBERS * list.len() / FIELDS + 2, 1);
+    Lent { list, card }
+}
+
+#[test]
+fn whole_finds_what_trying_all_finds() {
+    let mut seen = BTreeMap::new();
+    for seed in 0..1_500 {
+        let list = tiny(seed);
+        let rows: Vec<Row> = list.as_chunks::<FIELDS>().0.iter().map(Row::read).collect();
+        let mut card = vec![0; CARD_NUMBERS * rows.len()];
+        let answer = whole(&list, &mut card);
+        match brute::search(&rows) {
+            Ok(settings) => {
+                let numbers: Vec<u64> = settings.iter().flat_map(|set| set.numbers()).collect();
+                assert_eq!((answer, card), (Answer::DONE, numbers), "seed {seed}");
+            }
+            Err(refusal) => assert_eq!(answer, refusal, "seed {seed}"),
+        }
+        *seen.entry((answer.number, answer.place)).or_insert(0) += 1;
+    }
+    println!("tiny lists by (number, place): {seen:?}");
+    for row in 1..=3 {
+        assert!(seen[&(PICKUP, row)] > 10 && seen[&(DELAY, row)] > 10);
+    }
+    assert!(seen[&(DONE, 0)] > 400);
+}
+
+#[test]
+fn linear_version_agrees_on_lists() {
+    for seed in 0..3_000 {
+        both(&lent(list(seed)), seed);
+        both(&damaged(seed), seed);
+    }
+}
+
+#[test]
+fn linear_version_agrees_at_bounds() {
+    for seed in 0..20 {
+        let list = list_shaped(SHAPES[seed as usize % 4], 1 + seed % 7, seed);
+        for place in [1, list.len() / FIELDS] {
+            for moved in field_bounds(&list, place as u64) {
+                both(&lent(moved), seed);
+            }
+        }
+    }
+}
+
+#[test]
+fn linear_version_agrees_at_corners() {
+    let mut seen = BTreeMap::new();
+    for seed in 0..3_000 {
+        let (answer, _) = both(&lent(corners(seed)), seed);
+        *seen.entry(answer.number).or_insert(0) += 1;
+    }
+    println!("lists at corners by number: {seen:?}");
+    assert!(seen.keys().copied().eq([DONE, PICKUP, DELAY]) && seen[&DONE] > 100);
+}
+
+#[test]
+fn each_condition_is_met_at_equality() {
+    let mut found = BTreeMap::new();
+    for seed in 0..600 {
+        let list = list_shaped(SHAPES[seed as usize % 4], 1 + seed % 12, seed);
+        for condition in CONDITIONS {
+            let Some(lists) = at_equality(&list, condition, seed) else { continue };
+            let answers = lists.map(|list| both(&lent(list), seed));
+            assert_eq!(answers[1].0, Answer::DONE, "{condition:?}, seed {seed}");
+            let differs = answers[0] != answers[1] || answers[2] != answers[1];
+            assert!(differs, "{condition:?}, seed {seed}");
+            *found.entry(format!("{condition:?}")).or_insert(0) += 1;
+        }
+    }
+    println!("lists at equality: {found:?}");
+    assert!(found.len() == CONDITIONS.len() && found.values().all(|&count| count > 10));
+}
+
+#[test]
+fn long_chains_are_accepted_too() {
+    for count in [100, 200, 256] {
+        let done = |seed: &u64| {
+            let answer = both(&lent(list_shaped(Shape::Chain, count, *seed)), *seed).0;
+            answer == Answer::DONE
+        };
+        let accepted = (0..100).filter(done).count();
+        println!("chains of {count} rows accepted: {accepted} of 100");
+        assert!((20..=80).contains(&accepted));
+    }
+}
+
+/// One series, compared with the ledger and, after each step, the whole calculation.
+fn run_series(list: &[u64], seed: u64, seen: &mut BTreeMap<u64, u64>) {
+    let start = lent_card(CARD_NUMBERS * list.len() / FIELDS + 3, seed);
+    let (mut list, mut card) = (list.to_vec(), start.clone());
+    if whole(&list, &mut card) != Answer::DONE {
+        return;
+    }
+    let mut ledger = Ledger::new(&list);
+    for Change { place, row } in series(&list.clone(), 30, seed) {
+        let answer = replace(&mut list, &mut card, place, &row);
+        assert_eq!(answer, ledger.feed(place, &row), "seed {seed}");
+        assert_eq!(list, ledger.list(), "seed {seed}");
+        let mut afresh = start.clone();
+        assert_eq!(whole(&list, &mut afresh), Answer::DONE, "seed {seed}");
+        assert_eq!(card, afresh, "seed {seed}");
+        *seen.entry(answer.number).or_insert(0) += 1;
+    }
+}
+
+#[test]
+fn replacements_agree_with_the_ledger() {
+    let mut seen = BTreeMap::new();
+    for seed in 0..500 {
+        run_series(&list(seed), seed, &mut seen);
+    }
+    let total: u64 = seen.values().sum();
+    println!("replacements in series by number: {seen:?}");
+    let refused = total - seen[&DONE];
+    assert!(3 * refused >= total && 5 * refused <= 4 * total);
+}
+
+/// On any list and card a refusal leaves both alone.
+#[test]
+fn refused_replacements_change_nothing() {
+    for seed in 0..2_000 {
+        let lent = replacement(seed);
+        let (mut list, mut card) = (lent.list.clone(), lent.card.clone());
+        let answer = replace(&mut list, &mut card, lent.change.place, &lent.change.row);
+        if answer != Answer::DONE {
+            assert_eq!((list, card), (lent.list, lent.card), "seed {seed}");
+        }
+    }
+}
+
+/// A single times at most 2^27 is exact as a double, so are its floor and ceiling.
+#[test]
+fn study_agrees_with_exact_doubles() {
+    let mut rng = Rng::new(11);
+    for case in 0..200_000 {
+        let value_bits =
+            if rng.chance(20) { rng.any() } else { rng.between(0x2000_0000, 0x4d00_0000) } as u32;
+        let most = rng.pick(&[10, 1_000, MOST_CURRENT]);
+        let rated = rng.between(1, most);
+        let units = [(Unit::Ampere, 1_000), (Unit::Kiloampere, 1_000_000), (Unit::PerUnit, rated)];
+        let (unit, scale) = rng.pick(&units);
+        let exact = f64::from(f32::from_bits(value_bits)) * scale as f64;
+        let usable = |current: f64| exact >= 0.0 && (1.0..=MOST_CURRENT as f64).contains(&current);
+        let reading = Reading { unit, value_bits, rated };
+        let answer = study(reading, reading);
+        let place = if !usable(exact.ceil()) { 1 } else { 2 };
+        if usable(exact.ceil()) && usable(exact.floor()) {
+            let currents = (exact.ceil() as u64, exact.floor() as u64);
+            assert_eq!(
+                (answer.number, answer.greatest, answer.least),
+                (DONE, currents.0, currents.1),
+                "case {case}"
+            );
+        } else {
+            assert_eq!((answer.number, answer.place), (STUDY, place), "case {case}");
+        }
+    }
+}

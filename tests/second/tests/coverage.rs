@@ -1,0 +1,143 @@
+//! Every number, and every field of FIELD, turns up in the generated cases;
+//! ordinary lists are accepted about half the time.
+
+use second::answer::{
+    Answer, CARD, COUNT, DELAY, DONE, EDIT, FIELD, PICKUP, ROOM, STUDY, TEXT, TREE,
+};
+use second::generate::*;
+use second::replace::replace;
+use second::row::{CARD_NUMBERS, FIELDS};
+use second::study::{study, Reading, Unit};
+use second::text::{card, MOST_BYTES};
+use second::whole::whole;
+use std::collections::BTreeMap;
+
+type Seen = BTreeMap<u64, u64>;
+
+fn answer_for(list: &[u64]) -> Answer {
+    whole(list, &mut vec![0; CARD_NUMBERS * list.len() / FIELDS])
+}
+
+fn count(seen: &mut Seen, number: u64) {
+    *seen.entry(number).or_insert(0) += 1;
+}
+
+fn assert_seen(seen: &Seen, numbers: &[u64]) {
+    let found: Vec<u64> = seen.keys().copied().collect();
+    assert_eq!(found, numbers);
+}
+
+#[test]
+fn ordinary_lists_are_accepted_about_half_the_time() {
+    let mut seen = Seen::new();
+    (0..2_000).for_each(|seed| count(&mut seen, answer_for(&list(seed)).number));
+    println!("2,000 lists by number: {seen:?}");
+    assert!((600..=1_400).contains(&seen[&DONE]));
+}
+
+#[test]
+fn whole_calculations_give_every_number_and_field() {
+    let (mut seen, mut fields) = (Seen::new(), Seen::new());
+    let mut note = |answer: Answer| {
+        count(&mut seen, answer.number);
+        count(&mut fields, answer.field);
+    };
+    for seed in 0..1_000 {
+        let Lent { list: damaged, mut card } = damaged(seed);
+        note(whole(&damaged, &mut card));
+        note(answer_for(&list(seed)));
+    }
+    field_bounds(&list(3), 1).iter().for_each(|list| note(answer_for(list)));
+    println!("whole calculations by number: {seen:?}, by field: {fields:?}");
+    assert_seen(&seen, &[DONE, COUNT, ROOM, FIELD, TREE, PICKUP, DELAY]);
+    assert_seen(&fields, &(0..=FIELDS as u64).collect::<Vec<_>>());
+}
+
+#[test]
+fn replacements_give_every_number_and_field() {
+    let (mut seen, mut fields) = (Seen::new(), Seen::new());
+    for seed in 0..6_000 {
+        let Replacement { mut list, mut card, change } = replacement(seed);
+        let answer = replace(&mut list, &mut card, change.place, &change.row);
+        count(&mut seen, answer.number);
+        count(&mut fields, answer.field);
+    }
+    println!("replacements by number: {seen:?}, by field: {fields:?}");
+    assert_seen(&seen, &[DONE, COUNT, ROOM, FIELD, TREE, PICKUP, DELAY, CARD, EDIT]);
+    assert!((3..=FIELDS as u64).all(|field| fields.contains_key(&field)));
+}
+
+#[test]
+fn studies_give_every_place() {
+    let mut rng = Rng::new(5);
+    let mut seen = Seen::new();
+    let mut reading = || Reading {
+        unit: rng.pick(&[Unit::Ampere, Unit::Kiloampere, Unit::PerUnit]),
+        value_bits: if rng.chance(50) {
+            rng.any() as u32
+        } else {
+            rng.between(0x3000_0000, 0x4900_0000) as u32
+        },
+        rated: if rng.chance(90) {
+            rng.between(1, 100_000_000)
+        } else {
+            rng.pick(&[0, 100_000_001, u64::MAX])
+        },
+    };
+    for _ in 0..5_000 {
+        let answer = study(reading(), reading());
+        count(&mut seen, 10 * answer.number + answer.place);
+    }
+    println!("studies by number and place: {seen:?}");
+    assert_seen(&seen, &[10 * DONE, 10 * STUDY, 10 * STUDY + 1, 10 * STUDY + 2]);
+}
+
+/// The refusal number printed, 0 for a card.
+fn printed_number(text: &[u8]) -> u64 {
+    let printed = String::from_utf8_lossy(&card(text)).into_owned();
+    match printed.strip_prefix("refused,place,field\r\n") {
+        Some(line) => line.split(',').next().unwrap().parse().unwrap(),
+        None => DONE,
+    }
+}
+
+#[test]
+fn texts_give_every_number_of_theirs() {
+    let mut seen = Seen::new();
+    for seed in 0..800 {
+        let list = list(seed);
+        let whole_text = text(&list, seed);
+        let number = printed_number(&whole_text);
+        assert_eq!(number, answer_for(&list).number, "seed {seed}");
+        count(&mut seen, number);
+        count(&mut seen, printed_number(&damaged_text(&whole_text, seed)));
+        count(&mut seen, printed_number(&text(&damaged(seed).list, seed)));
+    }
+    println!("texts by number: {seen:?}");
+    assert_seen(&seen, &[DONE, TEXT, COUNT, FIELD, TREE, PICKUP, DELAY]);
+}
+
+#[test]
+fn every_byte_of_a_text_is_damaged() {
+    let mut seen = Seen::new();
+    let lists = (0..).map(|seed| list_shaped(Shape::Chain, 2, seed));
+    let accepted = lists.into_iter().find(|list| answer_for(list) == Answer::DONE);
+    let whole_text = text(&accepted.expect("an accepted list"), 9);
+    for at in 0..whole_text.len() {
+        byte_damages(&whole_text, at)
+            .iter()
+            .for_each(|text| count(&mut seen, printed_number(text)));
+    }
+    println!("byte damages by number: {seen:?}");
+    assert!(seen[&TEXT] > 1_000 && seen[&FIELD] > 10);
+}
+
+#[test]
+fn size_is_tested_first() {
+    assert_eq!(sized_text(MOST_BYTES).len(), MOST_BYTES);
+    assert_eq!(card(&sized_text(MOST_BYTES)), b"refused,place,field\r\n2,0,0\r\n");
+    assert_eq!(card(&sized_text(MOST_BYTES + 1)), b"refused,place,field\r\n1,0,0\r\n");
+    let mut bad_late = sized_text(MOST_BYTES);
+    bad_late[MOST_BYTES - 1] = b'x';
+    assert!(card(&bad_late).starts_with(b"refused,place,field\r\n1,"));
+}
