@@ -1,9 +1,9 @@
 -- Laws of sums, maxima and `every` below n. Assumes nothing.
 use mathlib.Core.Path.{_≡_, refl, sym, ap, ap₂, _∙_}
-use mathlib.Core.Bool.{Bool, true, false, _&&_}
+use mathlib.Core.Bool.{Bool, true, false, cond, _&&_, _||_, or-false, or-true}
 use mathlib.Core.Logic.{_⊎_, inl, inr, ⊎-elim}
-use lib.Dec.{leb}
-use borrow.Author.Tests.{leb-true, leb-false}
+use lib.Dec.{leb, eqb}
+use borrow.Author.Tests.{leb-true, leb-false, eq-eqb, ne-eqb}
 use Prim.Native.Nat.{ℕ, zero, suc, _+_, _*_, _-_, _≤_, _<_, max}
 use native.Mathlib.Nat.{eq-or-lt-of-le, le-of-suc-le-suc, le-max-left, le-max-right, max-le, le-trans, not-suc-le-zero, max-eq-right}
 use native.Mathlib.Numerals.{add-one}
@@ -129,3 +129,39 @@ sumTo-zero f (suc n) h =
     let s = sumTo-zero f n (λ j l. h j (omega arith)) in
     let t = h n (omega arith) in
     omega arith
+
+-- the maximum over all but one, and that one
+pub maxTo-others : (f g : ℕ → ℕ) (n k : ℕ) → k < n → g k ≡ 0 → ((j : ℕ) → (j ≡ k → ⊥) → f j ≡ g j) → maxTo n f ≡ max (maxTo n g) (f k)
+unfolding maxTo
+maxTo-others f g zero k l z h = absurd (not-suc-le-zero l)
+maxTo-others f g (suc n) k l z h =
+    below-cases l
+    (λ (e : k ≡ n).
+    let s : maxTo n f ≡ maxTo n g = maxTo-same f g n (λ j b. h j (λ q. omega arith)) in
+    rw (← e) (let s′ : maxTo k f ≡ maxTo k g = rw e s in omega arith))
+    (λ (b : k < n).
+    let s = maxTo-others f g n k b z h in
+    let t : f n ≡ g n = h n (λ q. omega arith) in
+    omega arith)
+
+-- one number more that counts: `done` has all that counted before, `done′` i besides
+module _ (n i : ℕ) (h : i < n) (done done′ : ℕ → Bool) (new : done i ≡ false) (next : (j : ℕ) → done′ j ≡ (done j || eqb j i))
+    (on : ℕ → Bool) (f f′ : ℕ → ℕ) (same : (j : ℕ) → (j ≡ i → ⊥) → f′ j ≡ f j) where
+  absent : cond (done i && on i) (f i) 0 ≡ 0
+  absent = rw new
+
+  kept : (j : ℕ) → (j ≡ i → ⊥) → cond (done′ j && on j) (f′ j) 0 ≡ cond (done j && on j) (f j) 0
+  kept j n = rw (next j, ne-eqb j i n, or-false (done j), same j n)
+
+  added : cond (done′ i && on i) (f′ i) 0 ≡ cond (on i) (f′ i) 0
+  added = rw (next i, eq-eqb i i refl, or-true (done i))
+
+  pub sum-next : sumTo n (λ j. cond (done′ j && on j) (f′ j) 0) ≡ sumTo n (λ j. cond (done j && on j) (f j) 0) + cond (on i) (f′ i) 0
+  sum-next =
+      sumTo-others (λ j. cond (done′ j && on j) (f′ j) 0) (λ j. cond (done j && on j) (f j) 0) n i h absent kept ∙
+      ap (λ (x : ℕ). sumTo n (λ j. cond (done j && on j) (f j) 0) + x) added
+
+  pub max-next : maxTo n (λ j. cond (done′ j && on j) (f′ j) 0) ≡ max (maxTo n (λ j. cond (done j && on j) (f j) 0)) (cond (on i) (f′ i) 0)
+  max-next =
+      maxTo-others (λ j. cond (done′ j && on j) (f′ j) 0) (λ j. cond (done j && on j) (f j) 0) n i h absent kept ∙
+      ap (max (maxTo n (λ j. cond (done j && on j) (f j) 0))) added

@@ -2,7 +2,7 @@
 use mathlib.Core.Path.{_≡_, refl, sym, ap, ap₂, _∙_}
 use mathlib.Core.Bool.{Bool, true, false, cond}
 use Prim.Native.Nat.{ℕ, _*_, _≤_, _<_}
-use native.Mathlib.Nat.{mul-comm}
+use native.Mathlib.Nat.{mul-comm, le-trans}
 use native.Mathlib.Omega.{arith}
 use lib.Dec.{leb, eqb}
 use borrow.Author.Tests.{eq-eqb, ne-eqb}
@@ -11,12 +11,13 @@ use Rattle.grid.specs.declared.Found.the-variants.{At, Nothing}
 use Rattle.grid.specs.Round.{ceilDiv}
 use Rattle.grid.specs.Grid.{leastOn}
 use Rattle.grid.proofs.RoundLaws.{ceilDiv-leb}
-use Rattle.grid.proofs.GridLaws.{leastOn-same}
+use Rattle.grid.proofs.GridLaws.{leastOn-same, leastOn-least}
 use Rattle.rows.specs.declared.Row.{Row}
 use Rattle.rows.specs.InRange.{Bounded}
 use Rattle.settle.specs.declared.Cutoff.{Cutoff}
 use Rattle.settle.specs.declared.Cutoff.the-variants.{Fitted, NotFitted}
 use Rattle.settle.specs.declared.Fed.{Fed}
+use Rattle.settle.specs.declared.Outcome.{Outcome}
 use Rattle.settle.specs.declared.Settled.{Settled}
 use Rattle.settle.specs.declared.Settled.the-variants.{Set, NoPickup, NoDelay}
 use Rattle.settle.specs.Conditions.{staysClear, seesNear, margin}
@@ -83,3 +84,51 @@ module _ (r : Row) where
         Set (record { pickup = I; delay = t; cutoff = c }) ≡ settledBy r f
     unfolding settledBy outcomeOf
     both-found I t c e g h = rw (e, g, h)
+
+-- what must hold where a row's outcome is this or that
+pub record OutcomeIs (r : Row) (a b : Found) (o : Outcome) : Type 0 where
+  pub pickup-found : a ≡ At (o .pickup)
+  pub delay-found : b ≡ At (o .delay)
+  pub cutoff-is : o .cutoff ≡ cutoffOf r
+
+module _ (r : Row) where
+  same-outcome : (o o′ : Outcome) → Set o ≡ Set o′ → o ≡ o′
+  same-outcome o o′ e = cc
+
+  pub outcome-set : (a b : Found) (o : Outcome) → outcomeOf r a b ≡ Set o → OutcomeIs r a b o
+  unfolding outcomeOf
+  outcome-set Nothing b o e = absurd (let z : _≡_ {A = ℕ} 0 1 = cc in omega arith)
+  outcome-set (At I) Nothing o e = absurd (let z : _≡_ {A = ℕ} 0 1 = cc in omega arith)
+  outcome-set (At I) (At t) o e =
+      let q = same-outcome (record { pickup = I; delay = t; cutoff = cutoffOf r }) o e in
+      record {
+        pickup-found = ap (λ (o : Outcome). At (o .pickup)) q;
+        delay-found = ap (λ (o : Outcome). At (o .delay)) q;
+        cutoff-is = sym (ap (λ (o : Outcome). o .cutoff) q);
+      }
+
+  pub outcome-no-pickup : (a b : Found) → outcomeOf r a b ≡ NoPickup → a ≡ Nothing
+  unfolding outcomeOf
+  outcome-no-pickup Nothing b e = refl
+  outcome-no-pickup (At I) Nothing e = absurd (let z : _≡_ {A = ℕ} 0 1 = cc in omega arith)
+  outcome-no-pickup (At I) (At t) e = absurd (let z : _≡_ {A = ℕ} 0 1 = cc in omega arith)
+
+  pub outcome-no-delay : (a b : Found) → outcomeOf r a b ≡ NoDelay → ((I : ℕ) × (a ≡ At I)) × (b ≡ Nothing)
+  unfolding outcomeOf
+  outcome-no-delay Nothing b e = absurd (let z : _≡_ {A = ℕ} 0 1 = cc in omega arith)
+  outcome-no-delay (At I) Nothing e = ((I, refl), refl)
+  outcome-no-delay (At I) (At t) e = absurd (let z : _≡_ {A = ℕ} 0 1 = cc in omega arith)
+
+  -- the settings that are found are at most what their columns hold
+  pub outcome-bounded :
+      (okp okd : ℕ → Bool) (o : Outcome) → Bounded r → outcomeOf r (leastPickup r okp) (leastDelay r okd) ≡ Set o →
+      (o .pickup ≤ 100000000) × (o .delay ≤ 100000)
+  outcome-bounded okp okd o a e =
+      let q = outcome-set (leastPickup r okp) (leastDelay r okd) o e in (
+        le-trans (leastOn-least _ _ _ (a .step-from) okp _ (q .pickup-found) .available .within) (a .high-to),
+        le-trans (leastOn-least _ _ 1 (omega arith) okd _ (q .delay-found) .available .within) (a .ceiling-to),
+      )
+
+  pub set-bounded : (f : Fed) (o : Outcome) → Bounded r → Set o ≡ settledBy r f → (o .pickup ≤ 100000000) × (o .delay ≤ 100000)
+  unfolding settledBy
+  set-bounded f o a e = outcome-bounded (pickupBy r f) (delayBy r f) o a (sym e)

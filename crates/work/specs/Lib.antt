@@ -1,3 +1,4 @@
 pub mod Card
+pub mod Ready
 pub mod Sums
 pub mod WorkOut

@@ -22,7 +22,7 @@ fedAt s k =
       load = getD s (k * 4) 0;
       clearance = getD s (k * 4 + 1) 0;
       shortfall = getD s (k * 4 + 2) 0;
-      earliest = getD s (k * 4 + 3) 0
+      earliest = getD s (k * 4 + 3) 0;
     }
 
 unfoldable pub putFed : List ℕ → ℕ → Fed → List ℕ
@@ -35,7 +35,7 @@ joined a b =
       load = a .load + b .load;
       clearance = max (a .clearance) (b .clearance);
       shortfall = max (a .shortfall) (b .shortfall);
-      earliest = max (a .earliest) (b .earliest)
+      earliest = max (a .earliest) (b .earliest);
     }
 
 -- what row r, settled at pickup p and delay d, asks is added for the row that feeds it

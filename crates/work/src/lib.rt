@@ -10,7 +10,6 @@ use settle::Settled;
 use settle::asks;
 use settle::printed_cutoff;
 use settle::settle;
-
 ghost use mathlib.Core.Path.{_≡_};
 ghost use Prim.Native.Nat.{_+_, _-_, _*_, _<_, _≤_, max};
 ghost use lib.ListN.{length};
@@ -18,8 +17,8 @@ ghost use Rattle.rows.specs.InRange.{Bounded};
 ghost use Rattle.rows.specs.Row.{rowAt};
 ghost use Rattle.settle.specs.Fed.{FedBounded};
 ghost use Rattle.work.specs.Card.{putRow};
+ghost use Rattle.work.specs.Ready.{PushReady, WorkReady, Stepped};
 ghost use Rattle.work.specs.Sums.{fedAt, putFed, joined, pushed, step};
-
 
 fn fed_at(sums: &[u64], k: usize) -> Fed
     requires { ⌜ k * 4 + 4 ≤ length (now sums) ⌝ }
@@ -71,5 +70,35 @@ fn join(a: Fed, b: Fed) -> Fed
         clearance: greater(a.clearance, b.clearance),
         shortfall: greater(a.shortfall, b.shortfall),
         earliest: greater(a.earliest, b.earliest),
+    }
+}
+
+// Adds what a settled row asks for the row that feeds it.
+pub fn push(r: Row, pickup: u64, delay: u64, sums: &mut [u64])
+    requires { ⌜ PushReady r pickup delay (now sums) ⌝ }
+    ensures { λ _. ⌜ now (sums .exit) ≡ pushed r pickup delay (now (sums .entry)) ⌝ }
+{
+    if r.feeder == 0 {
+        return;
+    }
+    let k = (r.feeder - 1) as usize;
+    let f = join(fed_at(sums, k), asks(r, pickup, delay));
+    put_fed(sums, k, f);
+}
+
+// Works out one row: its settings go to the card, what it asks to the sums. A refusal changes neither.
+pub fn work_row(list: &[u64], i: usize, card: &mut [u64], sums: &mut [u64]) -> Tested
+    requires { ⌜ WorkReady (now list) i (now card) (now sums) ⌝ }
+    ensures { λ t. ⌜ Stepped (step (now (list .entry)) i (now (card .entry)) (now (sums .entry))) t (now (card .exit)) (now (sums .exit)) ⌝ }
+{
+    let r = row_at(list, i);
+    match settle(r, fed_at(sums, i)) {
+        Settled::NoPickup => Tested::Refused(Answer::Pickup((i as u64) + 1)),
+        Settled::NoDelay => Tested::Refused(Answer::Delay((i as u64) + 1)),
+        Settled::Set(o) => {
+            put_row(card, i, o);
+            push(r, o.pickup, o.delay, sums);
+            Tested::Passed
+        }
     }
 }

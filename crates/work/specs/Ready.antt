@@ -1,0 +1,35 @@
+-- What one row's working out asks of its callers, and its promise. Definitions only.
+use mathlib.Core.Path.{_≡_}
+use mathlib.Core.List.{List}
+use Prim.Native.Nat.{ℕ, _+_, _-_, _*_, _≤_, _<_}
+use lib.ListN.{length}
+use Rattle.rows.specs.declared.Row.{Row}
+use Rattle.rows.specs.declared.Tested.{Tested}
+use Rattle.rows.specs.Row.{rowAt}
+use Rattle.rows.specs.InRange.{Bounded}
+use Rattle.settle.specs.Fed.{FedBounded}
+use Rattle.work.specs.Sums.{fedAt, Step}
+
+-- a row's numbers can be added for its feeder: the feeder has its place in the sums, and nothing overflows
+pub record PushReady (r : Row) (p d : ℕ) (s : List ℕ) : Type 0 where
+  pub bounded : Bounded r
+  pub pickup-to : p ≤ 100000000
+  pub delay-to : d ≤ 100000
+  pub has-place : 1 ≤ r .feeder → (r .feeder - 1) * 4 + 4 ≤ length s
+  pub load-fits : 1 ≤ r .feeder → fedAt s (r .feeder - 1) .load ≤ 12800000000000000
+
+-- row i can be worked out
+pub record WorkReady (l : List ℕ) (i : ℕ) (c s : List ℕ) : Type 0 where
+  pub in-list : i * 18 + 18 ≤ length l
+  pub in-card : i * 3 + 3 ≤ length c
+  pub in-sums : i * 4 + 4 ≤ length s
+  pub bounded : Bounded (rowAt l i)
+  pub fed-bounded : FedBounded (fedAt s i)
+  pub has-place : 1 ≤ rowAt l i .feeder → (rowAt l i .feeder - 1) * 4 + 4 ≤ length s
+  pub load-fits : 1 ≤ rowAt l i .feeder → fedAt s (rowAt l i .feeder - 1) .load ≤ 12800000000000000
+
+-- the answer, the card and the sums are the step's
+pub record Stepped (z : Step) (t : Tested) (c s : List ℕ) : Type 0 where
+  pub answer : t ≡ z .tested
+  pub card : c ≡ z .card
+  pub sums : s ≡ z .sums
