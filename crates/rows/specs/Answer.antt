@@ -1,7 +1,7 @@
 -- [01 §4] The number, the place and, for FIELD, the field of each answer. Definitions only.
 use Prim.Native.Nat.{ℕ}
 use Rattle.rows.specs.declared.Answer.{Answer}
-use Rattle.rows.specs.declared.Answer.the-variants.{Done, Count, Room, Field, Tree, Pickup, Delay}
+use Rattle.rows.specs.declared.Answer.the-variants.{Done, Count, Room, Field, Tree, Pickup, Delay, Card, Edit}
 use Rattle.rows.specs.declared.Given.{Given}
 
 -- number, place, field
@@ -16,3 +16,5 @@ givenBy (Field row field) = numbered 4 row field
 givenBy (Tree row) = numbered 5 row 0
 givenBy (Pickup row) = numbered 6 row 0
 givenBy (Delay row) = numbered 7 row 0
+givenBy (Card row) = numbered 9 row 0
+givenBy Edit = numbered 10 0 0

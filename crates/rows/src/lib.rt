@@ -41,6 +41,8 @@ pub enum Answer {
     Tree(u64),
     Pickup(u64),
     Delay(u64),
+    Card(u64),
+    Edit,
 }
 
 // What a test finds.
@@ -93,6 +95,16 @@ pub fn numbers(a: Answer) -> Given
         Answer::Delay(row) => Given {
             number: 7,
             place: row,
+            field: 0,
+        },
+        Answer::Card(row) => Given {
+            number: 9,
+            place: row,
+            field: 0,
+        },
+        Answer::Edit => Given {
+            number: 10,
+            place: 0,
             field: 0,
         },
     }
