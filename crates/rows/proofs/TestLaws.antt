@@ -5,7 +5,9 @@ use mathlib.Core.List.{List}
 use Prim.Native.Nat.{ℕ, _+_, _-_, _*_, _/_, _%_, _≤_, _<_}
 use lib.Dec.{leb, ltb, eqb}
 use lib.ListN.{length}
-use borrow.Author.Tests.{le-leb, lt-leb, lt-ltb, le-ltb, eq-eqb, ne-eqb}
+use native.Mathlib.Omega.{arith}
+use Rattle.grid.proofs.BoolLaws.{and-left, and-right}
+use borrow.Author.Tests.{eqb-true, leb-true, le-leb, lt-leb, lt-ltb, le-ltb, eq-eqb, ne-eqb}
 use Rattle.grid.specs.declared.Found.{Found}
 use Rattle.grid.specs.declared.Found.the-variants.{At, Nothing}
 use Rattle.grid.specs.First.{first}
@@ -92,3 +94,26 @@ module _ (len room : ℕ) where
   pub size-right : len % 18 ≡ 0 → 18 ≤ len → len ≤ 4608 → 3 * (len / 18) ≤ room → Passed ≡ sizeTest len room
   unfolding sizeTest
   size-right e g h k = rw (eq-eqb (len % 18) 0 e, le-leb 18 len g, le-leb len 4608 h, le-leb (3 * (len / 18)) room k)
+
+-- what sizes that pass are
+pub record SizeRight (len room : ℕ) : Type 0 where
+  pub whole-rows : len % 18 ≡ 0
+  pub some-rows : 18 ≤ len
+  pub most-rows : len ≤ 4608
+  pub card-room : 3 * (len / 18) ≤ room
+
+pub size-passed : (len room : ℕ) → sizeTest len room ≡ Passed → SizeRight len room
+unfolding sizeTest
+size-passed len room e = by-cases (eqb (len % 18) 0 && (leb 18 len && leb len 4608)) (leb (3 * (len / 18)) room) refl refl e
+  where
+    by-cases : (a b : Bool) → (eqb (len % 18) 0 && (leb 18 len && leb len 4608)) ≡ a → leb (3 * (len / 18)) room ≡ b → cond a (cond b Passed (Refused Room)) (Refused Count) ≡ Passed → SizeRight len room
+    by-cases true true p q e =
+        let r = and-right (eqb (len % 18) 0) (leb 18 len && leb len 4608) p in
+        record {
+          whole-rows = eqb-true (len % 18) 0 (and-left (eqb (len % 18) 0) (leb 18 len && leb len 4608) p);
+          some-rows = leb-true 18 len (and-left (leb 18 len) (leb len 4608) r);
+          most-rows = leb-true len 4608 (and-right (leb 18 len) (leb len 4608) r);
+          card-room = leb-true (3 * (len / 18)) room q;
+        }
+    by-cases true false p q e = absurd (let z : _≡_ {A = ℕ} 0 1 = cc in omega arith)
+    by-cases false b p q e = absurd (let z : _≡_ {A = ℕ} 0 1 = cc in omega arith)

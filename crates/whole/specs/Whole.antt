@@ -30,5 +30,10 @@ after (Refused a) c next = record { answer = a; card = c }
 unfoldable pub calculation : List ℕ → List ℕ → Worked
 calculation l c = workOut l (upFrom 0 (rows l)) c
 
+-- rows worked out with this answer, leaving this card
+unfoldable pub workedAs : Tested → List ℕ → Worked
+workedAs Passed c = finished c
+workedAs (Refused a) c = refused a
+
 unfoldable pub whole : List ℕ → List ℕ → Result
 whole l c = after (sizeTest (length l) (length c)) c (after (rowsTest l) c (ending c (calculation l c)))

@@ -1,0 +1,73 @@
+-- The whole calculation's answer, one law for each way that it ends. Assumes nothing.
+use mathlib.Core.Path.{_≡_, refl, sym, ap, _∙_}
+use mathlib.Core.List.{List, _++_}
+use Prim.Native.Nat.{ℕ, _+_, _*_, _/_, _≤_, _<_}
+use native.Mathlib.Nat.{mul-comm}
+use native.Mathlib.Omega.{arith}
+use lib.ListN.{length, getD, take, drop, replicate}
+use Rattle.rows.specs.declared.Answer.{Answer}
+use Rattle.rows.specs.declared.Answer.the-variants.{Done}
+use Rattle.rows.specs.declared.Tested.{Tested}
+use Rattle.rows.specs.declared.Tested.the-variants.{Passed, Refused}
+use Rattle.rows.specs.Row.{rows}
+use Rattle.rows.specs.Tests.{sizeTest, rowsTest}
+use Rattle.rows.proofs.InRangeLaws.{passed-in-range, passed-feeds}
+use Rattle.rows.proofs.TestLaws.{SizeRight, size-passed}
+use Rattle.work.specs.WorkOut.{Worked, finished, refused}
+use Rattle.whole.specs.Ready.{AllReady, Answered}
+use Rattle.whole.specs.Whole.{Result, ending, after, calculation, workedAs, whole}
+use Rattle.whole.proofs.FrameLaws.{framed, calculation-frame}
+use Rattle.whole.proofs.AllLaws.{clear-reads}
+
+module _ (l c : List ℕ) where
+  pub answered-size : (t : Tested) (a : Answer) → t ≡ sizeTest (length l) (length c) → t ≡ Refused a → Answered (whole l c) a c
+  unfolding whole after
+  answered-size t a e f = rw (sym e ∙ f) (record { answer = refl; card = refl })
+
+  module _ (s : Tested) (es : s ≡ sizeTest (length l) (length c)) (fs : s ≡ Passed) where
+    size : SizeRight (length l) (length c)
+    size = size-passed (length l) (length c) (sym es ∙ fs)
+
+    pub answered-rows : (t : Tested) (a : Answer) → t ≡ rowsTest l → t ≡ Refused a → Answered (whole l c) a c
+    unfolding whole after
+    answered-rows t a e f = rw (sym es ∙ fs, sym e ∙ f) (record { answer = refl; card = refl })
+
+    module _ (t : Tested) (et : t ≡ rowsTest l) (ft : t ≡ Passed) where
+      -- on a card of its own with room for every row, and sums that are 0
+      pub own-ready : (z y : List ℕ) → 768 ≤ length z → 1024 ≤ length y → ((x : ℕ) → getD y x 0 ≡ 0) → AllReady l (rows l) z y
+      own-ready z y h k q =
+          record {
+            all-rows = refl;
+            rows-to = omega (arith, size .most-rows);
+            tested = sym et ∙ ft;
+            card-room = omega (arith, size .most-rows);
+            sums-room = omega (arith, size .most-rows);
+            sums-clear = q;
+          }
+
+      pub rows-to : rows l ≤ 256
+      rows-to = omega (arith, size .most-rows)
+
+      pub room-for : 3 * rows l ≤ length c
+      room-for = size .card-room
+
+      calculates : (z : List ℕ) (w : Worked) → 768 ≤ length z → calculation l z ≡ w → whole l c ≡ ending c (framed (rows l * 3) c w)
+      unfolding whole after
+      calculates z w h e =
+          rw (sym es ∙ fs, sym et ∙ ft)
+          (ap (ending c)
+          (calculation-frame l (passed-in-range l (sym et ∙ ft)) (passed-feeds l (sym et ∙ ft)) z c (omega (arith, size .most-rows)) (omega (arith, size .card-room)) ∙
+          ap (framed (rows l * 3) c) e))
+
+      pub answered-refused : (z z′ : List ℕ) (w : Tested) (a : Answer) → 768 ≤ length z → calculation l z ≡ workedAs w z′ → w ≡ Refused a → Answered (whole l c) a c
+      unfolding ending framed workedAs
+      answered-refused z z′ w a h e f =
+          rw (calculates z (workedAs w z′) h e, f) (record { answer = refl; card = refl })
+
+      pub answered-done :
+          (z z′ c′ : List ℕ) (w : Tested) → 768 ≤ length z → calculation l z ≡ workedAs w z′ → w ≡ Passed →
+          c′ ≡ take (3 * rows l) z′ ++ drop (3 * rows l) c → Answered (whole l c) Done c′
+      unfolding ending framed workedAs
+      answered-done z z′ c′ w h e f g =
+          rw (calculates z (workedAs w z′) h e, f)
+          (record { answer = refl; card = g ∙ ap (λ (n : ℕ). take n z′ ++ drop n c) (mul-comm 3 (rows l)) })
