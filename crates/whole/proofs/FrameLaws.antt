@@ -66,7 +66,7 @@ fed-below l b i j h g =
     (passes-or-fails (eqb (j + 1) (rows l)))
 
 -- two cards that hold the same numbers below n
-pub Agree : ℕ → List ℕ → List ℕ → Type 0
+unfoldable pub Agree : ℕ → List ℕ → List ℕ → Type 0
 Agree n c c′ = (x : ℕ) → x < n → getD c x 0 ≡ getD c′ x 0
 
 pub take-agree : (n : ℕ) (c c′ : List ℕ) → n ≤ length c → n ≤ length c′ → Agree n c c′ → take n c ≡ take n c′
@@ -115,7 +115,7 @@ framed-drop n c c′ (refused a) e = refl
 
 module _ (l : List ℕ) (a : InRange l) (b : Feeds l) where
   -- cards that agree below row i settle it alike
-  settled-agree : (i : ℕ) (c c′ : List ℕ) → i < rows l → Agree (i * 3) c c′ → settled l (pickupIn c) (delayIn c) i ≡ settled l (pickupIn c′) (delayIn c′) i
+  pub settled-agree : (i : ℕ) (c c′ : List ℕ) → i < rows l → Agree (i * 3) c c′ → settled l (pickupIn c) (delayIn c) i ≡ settled l (pickupIn c′) (delayIn c′) i
   unfolding Agree
   settled-agree i c c′ h e =
       settled-same l l (pickupIn c) (pickupIn c′) (delayIn c) (delayIn c′) i refl refl (λ j g. refl) (λ j g f. refl)
@@ -149,3 +149,33 @@ module _ (l : List ℕ) (a : InRange l) (b : Feeds l) where
   pub calculation-frame : (c c′ : List ℕ) → rows l * 3 ≤ length c → rows l * 3 ≤ length c′ → calculation l c′ ≡ framed (rows l * 3) c′ (calculation l c)
   unfolding calculation Agree
   calculation-frame c c′ h h′ = frame (rows l) 0 c c′ (zero-add (rows l)) h h′ (λ x b. absurd (omega arith))
+
+-- what stands past three numbers a row is kept, and so is the card's length
+pub record Kept (n : ℕ) (c c′ : List ℕ) : Type 0 where
+  pub same-length : length c′ ≡ length c
+  pub past-rows : drop n c′ ≡ drop n c
+
+module _ (l : List ℕ) where
+  keeps-from : (m i : ℕ) (c c′ : List ℕ) → i + m ≡ rows l → workOut l (upFrom i m) c ≡ finished c′ → Kept (rows l * 3) c c′
+  unfolding workOut upFrom onSettled
+  keeps-from zero i c c′ n e =
+      let q : c ≡ c′ = cc in
+      record { same-length = ap length (sym q); past-rows = ap (drop (rows l * 3)) (sym q) }
+  keeps-from (suc m) i c c′ n e =
+      by-cases (settled l (pickupIn c) (delayIn c) i) e (λ o. keeps-from m (suc i) (putRow c i o) c′ (omega arith))
+    where
+      by-cases :
+          (s : Settled) → onSettled i s (λ o. workOut l (upFrom (suc i) m) (putRow c i o)) ≡ finished c′ →
+          ((o : Outcome) → workOut l (upFrom (suc i) m) (putRow c i o) ≡ finished c′ → Kept (rows l * 3) (putRow c i o) c′) → Kept (rows l * 3) c c′
+      by-cases (Set o) e ih =
+          let k = ih o e in
+          record {
+            same-length = k .same-length ∙ putRow-length c i o;
+            past-rows = k .past-rows ∙ putRow-drop c i o (rows l * 3) (omega arith);
+          }
+      by-cases NoPickup e ih = absurd (let z : _≡_ {A = ℕ} 0 1 = cc in omega arith)
+      by-cases NoDelay e ih = absurd (let z : _≡_ {A = ℕ} 0 1 = cc in omega arith)
+
+  pub calculation-keeps : (c c′ : List ℕ) → calculation l c ≡ finished c′ → Kept (rows l * 3) c c′
+  unfolding calculation
+  calculation-keeps c c′ e = keeps-from (rows l) 0 c c′ (zero-add (rows l)) e
