@@ -1,33 +1,27 @@
+-- `grid::ceil_div` meets its contract: the quotient where nothing is left over, and one more otherwise, is the quotient rounded up.
+-- Assumes nothing.
 use native.Mathlib.Omega.{arith}
 use borrow.Author.Needs.{needs}
 use native.Mathlib.Nat.{pos-of-ne-zero}
 use Rattle.grid.proofs.RoundLaws.{ceilDiv-by-zero, ceilDiv-over, ceilDiv-exact, over-fits}
 use Rattle.grid.proofs.ceil_div.Statement.{statement}
 use Rattle.grid.proofs.ceil_div.Tie as tie
-use Rattle.grid.proofs.ceil_div.Reads as reads
-use Rattle.grid.proofs.ceil_div.Lts as lts
 
--- src/lib.rt:18:9
 returns : tie.Need-returns
 returns c = ceilDiv-by-zero _ _ (c .if1 .taken)
 
--- src/lib.rt:20:13
 div-q : tie.Need-div-q
 div-q c = search needs
 
--- src/lib.rt:21:8
 rem-if2 : tie.Need-rem-if2
 rem-if2 c = search needs
 
--- src/lib.rt:21:32
 add-result : tie.Need-add-result
 add-result c = record { fits = omega (arith, c .before .before .fits .n, over-fits _ _ (c .before .if1 .left) (c .if2 .left)) }
 
--- src/lib.rt:14:1
 returns-2 : tie.Need-returns-2
 returns-2 c = ceilDiv-exact _ _ (pos-of-ne-zero (c .before .if1 .left)) (c .if2 .taken)
 
--- src/lib.rt:14:1
 returns-3 : tie.Need-returns-3
 returns-3 c = ceilDiv-over _ _ (pos-of-ne-zero (c .before .if1 .left)) (c .if2 .left)
 

@@ -1,3 +1,5 @@
+-- `grid::least_on` meets its contract: each return is a law of `leastOn` by where the bound stands: at or below low, past high, on the grid, or between two values.
+-- Assumes nothing.
 use native.Mathlib.Omega.{arith}
 use borrow.Author.Needs.{needs}
 use mathlib.Core.Path.{sym}
@@ -7,36 +9,27 @@ use native.Mathlib.Nat.{pos-of-ne-zero, mod-lt}
 use Rattle.grid.proofs.GridLaws.{leastOn-no-step, leastOn-past-high, leastOn-from-low, leastOn-nearest, leastOn-nearest-past, on-the-grid, next-on-the-grid}
 use Rattle.grid.proofs.least_on.Statement.{statement}
 use Rattle.grid.proofs.least_on.Tie as tie
-use Rattle.grid.proofs.least_on.Reads as reads
-use Rattle.grid.proofs.least_on.Lts as lts
 
--- src/lib.rt:29:9
 returns : tie.Need-returns
 returns c = sym (leastOn-no-step _ _ _ _ (c .if1 .taken))
 
--- src/lib.rt:32:9
 returns-2 : tie.Need-returns-2
 returns-2 c = sym (leastOn-past-high _ _ _ _ (pos-of-ne-zero (c .before .if1 .left)) (inl (c .if2 .taken)))
 
--- src/lib.rt:35:9
 returns-3 : tie.Need-returns-3
 returns-3 c =
     sym (leastOn-from-low _ _ _ _ (pos-of-ne-zero (c .before .before .if1 .left)) (c .before .if2 .left) (c .if3 .taken))
 
--- src/lib.rt:38:9
 returns-4 : tie.Need-returns-4
 returns-4 c =
     sym (leastOn-past-high _ _ _ _ (pos-of-ne-zero (c .before .before .before .if1 .left)) (inr (c .if4 .taken)))
 
--- src/lib.rt:40:17
 sub-past : tie.Need-sub-past
 sub-past c = search needs
 
--- src/lib.rt:40:16
 rem-past : tie.Need-rem-past
 rem-past c = search needs
 
--- src/lib.rt:42:9
 returns-5 : tie.Need-returns-5
 returns-5 c =
     let a = c .before .before .before .before .before .args in
@@ -45,16 +38,13 @@ returns-5 c =
     (leastOn-nearest (a .low) (a .high) (a .step) (a .bound) p ((a .bound - a .low) / a .step) (a .bound)
     (on-the-grid (a .low) (a .bound) (a .step) (omega arith) (c .if5 .taken)) (omega arith) (omega (arith, p)) (omega arith))
 
--- src/lib.rt:44:14
 sub-up : tie.Need-sub-up
 sub-up c =
     omega (arith, mod-lt (c .before .before .before .before .before .args .bound - c .before .before .before .before .before .args .low) (pos-of-ne-zero (c .before .before .before .before .if1 .left)))
 
--- src/lib.rt:48:19
 add-t10 : tie.Need-add-t10
 add-t10 c = search needs
 
--- src/lib.rt:25:1
 returns-6 : tie.Need-returns-6
 returns-6 c =
     let a = c .before .before .before .before .before .before .args in
@@ -64,7 +54,6 @@ returns-6 c =
     (leastOn-nearest-past (a .low) (a .high) (a .step) (a .bound) p ((a .bound - a .low) / a .step + 1) _
     (next-on-the-grid (a .low) (a .bound) (a .step) (omega arith) p) (omega arith) (omega arith) (omega arith))
 
--- src/lib.rt:25:1
 returns-7 : tie.Need-returns-7
 returns-7 c =
     let a = c .before .before .before .before .before .before .args in

@@ -1,81 +1,62 @@
-use native.Mathlib.Omega.{arith}
+-- `rows::numbers` meets its contract: each case of the answer has the numbers that `givenBy` says.
+-- Assumes nothing.
 use borrow.Author.Needs.{needs}
 use mathlib.Core.Path.{sym, ap}
 use Rattle.rows.specs.Answer.{givenBy}
 use Rattle.rows.proofs.numbers.Statement.{statement}
 use Rattle.rows.proofs.numbers.Tie as tie
-use Rattle.rows.proofs.numbers.Reads as reads
-use Rattle.rows.proofs.numbers.Lts as lts
 
--- src/lib.rt:65:25
 enum-told : tie.Need-enum-told
 enum-told c = search needs
 
--- src/lib.rt:70:26
 enum-told-2 : tie.Need-enum-told-2
 enum-told-2 c = search needs
 
--- src/lib.rt:75:25
 enum-told-3 : tie.Need-enum-told-3
 enum-told-3 c = search needs
 
--- src/lib.rt:80:23
 enum-known-a : tie.Need-enum-known-a
 enum-known-a c = search needs
 
--- src/lib.rt:85:22
 enum-known-a-2 : tie.Need-enum-known-a-2
 enum-known-a-2 c = search needs
 
--- src/lib.rt:90:24
 enum-known-a-3 : tie.Need-enum-known-a-3
 enum-known-a-3 c = search needs
 
--- src/lib.rt:95:23
 enum-known-a-4 : tie.Need-enum-known-a-4
 enum-known-a-4 c = search needs
 
--- src/lib.rt:100:22
 enum-known-a-5 : tie.Need-enum-known-a-5
 enum-known-a-5 c = search needs
 
--- src/lib.rt:105:25
 enum-told-4 : tie.Need-enum-told-4
 enum-told-4 c = search needs
 
--- src/lib.rt:61:1
 returns : tie.Need-returns
 returns c = ap givenBy (sym (c .enum-told .given .1))
 
--- src/lib.rt:61:1
 returns-2 : tie.Need-returns-2
 returns-2 c = ap givenBy (sym (c .enum-told2 .given .1))
 
--- src/lib.rt:61:1
 returns-3 : tie.Need-returns-3
 returns-3 c = ap givenBy (sym (c .enum-told3 .given .1))
 
--- src/lib.rt:61:1
 returns-4 : tie.Need-returns-4
 returns-4 c = ap givenBy (sym (c .before .a .given .1))
 
--- src/lib.rt:61:1
 returns-5 : tie.Need-returns-5
 returns-5 c = ap givenBy (sym (c .before .a2 .given .1))
 
--- src/lib.rt:61:1
 returns-6 : tie.Need-returns-6
 returns-6 c = ap givenBy (sym (c .before .a3 .given .1))
 
--- src/lib.rt:61:1
 returns-7 : tie.Need-returns-7
 returns-7 c = ap givenBy (sym (c .before .a4 .given .1))
 
--- src/lib.rt:61:1
 returns-8 : tie.Need-returns-8
 returns-8 c = ap givenBy (sym (c .before .a5 .given .1))
 
--- src/lib.rt:61:1
 returns-9 : tie.Need-returns-9
 returns-9 c = ap givenBy (sym (c .enum-told4 .given .1))
 

@@ -1,3 +1,5 @@
+-- `rows::test_tree` meets its contract: the first row fed wrongly decides.
+-- Assumes nothing.
 use native.Mathlib.Omega.{arith}
 use borrow.Author.Needs.{needs}
 use mathlib.Core.Path.{sym, _∙_}
@@ -5,31 +7,22 @@ use Rattle.grid.proofs.FirstLaws.{first-below}
 use Rattle.rows.proofs.TestLaws.{tree-found, tree-none}
 use Rattle.rows.proofs.test_tree.Statement.{statement}
 use Rattle.rows.proofs.test_tree.Tie as tie
-use Rattle.rows.proofs.test_tree.Reads as reads
-use Rattle.rows.proofs.test_tree.Lts as lts
-use Rattle.rows.proofs.first_fed_wrongly.Reads as first-fed-wrongly-reads
 
--- src/lib.rt:202:11
 first-fed-wrongly-requires : tie.Need-first-fed-wrongly-requires
 first-fed-wrongly-requires c κs = search needs
 
--- src/lib.rt:203:19
 enum-known-i : tie.Need-enum-known-i
 enum-known-i c = search needs
 
--- src/lib.rt:203:54
 add-t5 : tie.Need-add-t5
 add-t5 c = omega (arith, first-below _ (sym (c .before .before .before .first-fed-wrongly .ensures) ∙ c .before .i .given .1))
 
--- src/lib.rt:204:27
 enum-told : tie.Need-enum-told
 enum-told c = search needs
 
--- src/lib.rt:199:1
 returns : tie.Need-returns
 returns c = tree-found _ _ (sym (c .before .before .before .first-fed-wrongly .ensures) ∙ c .before .i .given .1)
 
--- src/lib.rt:199:1
 returns-2 : tie.Need-returns-2
 returns-2 c = tree-none _ (sym (c .before .before .first-fed-wrongly .ensures) ∙ c .enum-told .given .1)
 

@@ -1,25 +1,19 @@
-use native.Mathlib.Omega.{arith}
+-- `settle::least_delay` meets its contract: between floor and ceiling, D1 and D2 hold exactly from the later of the two bounds on.
+-- Assumes nothing.
 use borrow.Author.Needs.{needs}
-use mathlib.Core.Path.{_≡_, sym, _∙_}
+use mathlib.Core.Path.{_∙_}
 use mathlib.Core.Logic.{⊎-elim}
 use borrow.Author.Tests.{eq-eqb, ne-eqb}
 use Rattle.settle.proofs.PickupLaws.{delay-from}
 use Rattle.settle.proofs.least_delay.Statement.{statement}
 use Rattle.settle.proofs.least_delay.Tie as tie
-use Rattle.settle.proofs.least_delay.Reads as reads
-use Rattle.settle.proofs.least_delay.Lts as lts
-use Rattle.grid.proofs.least_on.Reads as least-on-reads
-use Rattle.settle.proofs.greater.Reads as greater-reads
 
--- src/lib.rt:96:37
 greater-requires : tie.Need-greater-requires
 greater-requires c κs = search needs
 
--- src/lib.rt:96:5
 least-on-requires : tie.Need-least-on-requires
 least-on-requires c κs = search needs
 
--- src/lib.rt:92:1
 returns : tie.Need-returns
 returns c =
     delay-from _ _ _ _ _ (c .least-on .ensures) (c .before .greater .ensures)

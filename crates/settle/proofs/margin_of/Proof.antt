@@ -1,20 +1,15 @@
-use native.Mathlib.Omega.{arith}
-use borrow.Author.Needs.{needs}
+-- `settle::margin_of` meets its contract: each device has its own return.
+-- Assumes nothing.
 use Rattle.settle.proofs.OutcomeLaws.{margin-1, margin-2, margin-3}
 use Rattle.settle.proofs.margin_of.Statement.{statement}
 use Rattle.settle.proofs.margin_of.Tie as tie
-use Rattle.settle.proofs.margin_of.Reads as reads
-use Rattle.settle.proofs.margin_of.Lts as lts
 
--- src/lib.rt:151:9
 returns : tie.Need-returns
 returns c = margin-1 _ (c .if1 .taken)
 
--- src/lib.rt:147:1
 returns-2 : tie.Need-returns-2
 returns-2 c = margin-2 _ (c .before .if1 .left) (c .if2 .taken)
 
--- src/lib.rt:147:1
 returns-3 : tie.Need-returns-3
 returns-3 c = margin-3 _ (c .before .if1 .left) (c .if2 .left)
 

@@ -1,63 +1,48 @@
-use native.Mathlib.Omega.{arith}
+-- `settle::pickup_from` meets its contract: a bound rounded up says the same of whole pickups as the inequality multiplied out.
+-- Assumes nothing.
 use borrow.Author.Needs.{needs}
-use native.Mathlib.Nat.{lt-of-le-of-lt, mul-le-mul, mul-le-mul-left, le-trans}
-use lib.Dec.{lit<, lit≤}
-use mathlib.Core.Path.{sym, ap, _∙_}
+use native.Mathlib.Nat.{lt-of-le-of-lt, mul-le-mul, mul-le-mul-left}
+use lib.Dec.{lit<}
+use mathlib.Core.Path.{ap, _∙_}
 use Prim.Native.Nat.{ℕ, _*_}
 use lib.Dec.{leb}
 use Rattle.grid.specs.Round.{ceilDiv}
 use Rattle.settle.proofs.PickupLaws.{pickup-bound}
 use Rattle.settle.proofs.pickup_from.Statement.{statement}
 use Rattle.settle.proofs.pickup_from.Tie as tie
-use Rattle.settle.proofs.pickup_from.Reads as reads
-use Rattle.settle.proofs.pickup_from.Lts as lts
-use Rattle.grid.proofs.ceil_div.Reads as ceil-div-reads
-use Rattle.settle.proofs.greater.Reads as greater-reads
-use Rattle.settle.proofs.over.Reads as over-reads
 
--- src/lib.rt:64:28
 mul-ceil-div : tie.Need-mul-ceil-div
 mul-ceil-div c = search needs
 
--- src/lib.rt:64:28
 mul-ceil-div-2 : tie.Need-mul-ceil-div-2
 mul-ceil-div-2 c =
     let a = c .before .before .pre .0 in
     record { fits = lt-of-le-of-lt (mul-le-mul (mul-le-mul-left 11 (a .selfstart-to)) (a .work-to)) (lit< tt) }
 
--- src/lib.rt:64:55
 mul-ceil-div-3 : tie.Need-mul-ceil-div-3
 mul-ceil-div-3 c = search needs
 
--- src/lib.rt:64:9
 ceil-div-requires : tie.Need-ceil-div-requires
 ceil-div-requires c κs = search needs
 
--- src/lib.rt:65:22
 add-over : tie.Need-add-over
 add-over c = search needs
 
--- src/lib.rt:65:9
 over-requires : tie.Need-over-requires
 over-requires c κs = search needs
 
--- src/lib.rt:66:27
 mul-ceil-div-4 : tie.Need-mul-ceil-div-4
 mul-ceil-div-4 c = search needs
 
--- src/lib.rt:66:39
 mul-ceil-div-5 : tie.Need-mul-ceil-div-5
 mul-ceil-div-5 c = search needs
 
--- src/lib.rt:66:9
 ceil-div-requires-2 : tie.Need-ceil-div-requires-2
 ceil-div-requires-2 c κs = search needs
 
--- src/lib.rt:67:5
 greater-requires : tie.Need-greater-requires
 greater-requires c κs = search needs
 
--- src/lib.rt:60:1
 returns : tie.Need-returns
 returns c =
     let a = c .before .before .before .before .before .before .before .before .before .args in

@@ -1,23 +1,20 @@
+-- `settle::sees_near` meets its contract: the factor is the kind's, and the test is the document's.
+-- Assumes nothing.
 use native.Mathlib.Omega.{arith}
 use borrow.Author.Needs.{needs}
-use mathlib.Core.Path.{_≡_, sym, _∙_}
+use mathlib.Core.Path.{_∙_}
 use mathlib.Core.Logic.{⊎-elim}
 use borrow.Author.Tests.{eq-eqb, ne-eqb}
 use Rattle.settle.proofs.OutcomeLaws.{sees-near-is}
 use Rattle.settle.proofs.sees_near.Statement.{statement}
 use Rattle.settle.proofs.sees_near.Tie as tie
-use Rattle.settle.proofs.sees_near.Reads as reads
-use Rattle.settle.proofs.sees_near.Lts as lts
 
--- src/lib.rt:105:5
 mul-result : tie.Need-mul-result
 mul-result c = ⊎-elim (λ w. rw (w .1) (omega arith)) (λ w. rw (w .1) (omega arith)) (c .before .if1 .came)
 
--- src/lib.rt:105:19
 mul-result-2 : tie.Need-mul-result-2
 mul-result-2 c = search needs
 
--- src/lib.rt:100:1
 returns : tie.Need-returns
 returns c = sees-near-is _ _ _ (⊎-elim (λ w. w .1 ∙ rw (eq-eqb _ 1 (w .0 .taken))) (λ w. w .1 ∙ rw (ne-eqb _ 1 (w .0 .left))) (c .before .before .if1 .came))
 

@@ -1,27 +1,22 @@
+-- `settle::shortfall_of` meets its contract: far times volts stays below REACH.
+-- Assumes nothing.
 use native.Mathlib.Omega.{arith}
-use borrow.Author.Needs.{needs}
-use native.Mathlib.Nat.{lt-of-le-of-lt, mul-le-mul, mul-le-mul-left, le-trans}
-use lib.Dec.{lit<, lit≤}
+use native.Mathlib.Nat.{lt-of-le-of-lt}
+use lib.Dec.{lit<}
 use borrow.Author.Tests.{eq-eqb, ne-eqb}
 use Rattle.settle.proofs.PickupLaws.{current-volts}
 use Rattle.settle.proofs.shortfall_of.Statement.{statement}
 use Rattle.settle.proofs.shortfall_of.Tie as tie
-use Rattle.settle.proofs.shortfall_of.Reads as reads
-use Rattle.settle.proofs.shortfall_of.Lts as lts
 
--- src/lib.rt:160:32
 mul-result : tie.Need-mul-result
 mul-result c = let a = c .before .before .before .pre in record { fits = lt-of-le-of-lt (current-volts (a .far-to) (a .volts-to)) (lit< tt) }
 
--- src/lib.rt:160:24
 sub-result : tie.Need-sub-result
 sub-result c = let a = c .before .before .before .pre in omega (arith, current-volts (a .far-to) (a .volts-to))
 
--- src/lib.rt:156:1
 returns : tie.Need-returns
 returns c = rw (eq-eqb _ 1 (c .before .if1 .taken))
 
--- src/lib.rt:156:1
 returns-2 : tie.Need-returns-2
 returns-2 c = rw (ne-eqb _ 1 (c .if1 .left))
 

@@ -1,3 +1,5 @@
+-- `whole::answer` meets its contract: each return is a way in which the calculation ends; the local card stands for the lent one, since a calculation does not depend on the card before it.
+-- Assumes nothing.
 use native.Mathlib.Omega.{arith}
 use borrow.Author.Needs.{needs}
 use mathlib.Core.Path.{_≡_}
@@ -7,37 +9,25 @@ use Rattle.whole.proofs.AllLaws.{clear-reads}
 use Rattle.whole.proofs.AnswerLaws.{answered-size, answered-rows, own-ready, rows-to, room-for, answered-refused, answered-done}
 use Rattle.whole.proofs.answer.Statement.{statement}
 use Rattle.whole.proofs.answer.Tie as tie
-use Rattle.whole.proofs.answer.Reads as reads
-use Rattle.whole.proofs.answer.Lts as lts
-use Rattle.rows.proofs.test_rows.Reads as test-rows-reads
-use Rattle.rows.proofs.test_size.Reads as test-size-reads
-use Rattle.whole.proofs.copy_front.Reads as copy-front-reads
-use Rattle.whole.proofs.work_all.Reads as work-all-reads
 
--- src/lib.rt:50:9
 test-size-requires : tie.Need-test-size-requires
 test-size-requires c κs = search needs
 
--- src/lib.rt:51:28
 enum-known-size : tie.Need-enum-known-size
 enum-known-size c = search needs
 
--- src/lib.rt:52:9
 returns : tie.Need-returns
 returns c = answered-size _ _ _ _ (c .before .before .before .test-size .ensures) (c .before .size .given .1)
 
 enum-told : tie.Need-enum-told
 enum-told c = search needs
 
--- src/lib.rt:54:9
 test-rows-requires : tie.Need-test-rows-requires
 test-rows-requires c κs = search needs
 
--- src/lib.rt:55:28
 enum-known-rows : tie.Need-enum-known-rows
 enum-known-rows c = search needs
 
--- src/lib.rt:56:9
 returns-2 : tie.Need-returns-2
 returns-2 c =
     answered-rows _ _ _ (c .before .before .before .before .before .before .test-size .ensures) (c .before .before .before .before .enum-told .given .1) _ _ (c .before .before .before .test-rows .ensures) (c .before .rows .given .1)
@@ -45,24 +35,19 @@ returns-2 c =
 enum-told-2 : tie.Need-enum-told-2
 enum-told-2 c = search needs
 
--- src/lib.rt:61:36
 slice-aggregate-work-all : tie.Need-slice-aggregate-work-all
 slice-aggregate-work-all c = search needs
 
--- src/lib.rt:61:46
 slice-aggregate-work-all-2 : tie.Need-slice-aggregate-work-all-2
 slice-aggregate-work-all-2 c = search needs
 
--- src/lib.rt:61:9
 work-all-requires : tie.Need-work-all-requires
 work-all-requires c κs =
     own-ready (c .before .before .before .before .before .before .before .before .before .before .args .list .now) (c .before .before .before .before .before .before .before .before .before .before .args .card .now) _ (c .before .before .before .before .before .before .before .test-size .ensures) (c .before .before .before .before .before .enum-told .given .1) _ (c .before .before .before .before .test-rows .ensures) (c .before .before .enum-told2 .given .1) _ _ (lit≤ tt) (lit≤ tt) (clear-reads 1024)
 
--- src/lib.rt:62:28
 enum-known-worked : tie.Need-enum-known-worked
 enum-known-worked c = search needs
 
--- src/lib.rt:63:9
 returns-3 : tie.Need-returns-3
 returns-3 c =
     answered-refused _ _ _ (c .before .before .before .before .before .before .before .before .before .before .before .before .before .test-size .ensures) (c .before .before .before .before .before .before .before .before .before .before .before .enum-told .given .1) _ (c .before .before .before .before .before .before .before .before .before .before .test-rows .ensures) (c .before .before .before .before .before .before .before .before .enum-told2 .given .1) _ _ _ _ (lit≤ tt) (c .before .before .before .before .before .work-all .ensures) (c .before .worked .given .1)
@@ -70,15 +55,12 @@ returns-3 c =
 enum-told-3 : tie.Need-enum-told-3
 enum-told-3 c = search needs
 
--- src/lib.rt:65:22
 slice-aggregate-copy-front : tie.Need-slice-aggregate-copy-front
 slice-aggregate-copy-front c = search needs
 
--- src/lib.rt:65:28
 mul-copy-front : tie.Need-mul-copy-front
 mul-copy-front c = search needs
 
--- src/lib.rt:65:5
 copy-front-requires : tie.Need-copy-front-requires
 copy-front-requires c κs =
     let a = c .before .before .before .before .before .before .before .before .before .before .before .before .before .before .before .before .before .args in
@@ -88,11 +70,9 @@ copy-front-requires c κs =
       omega (arith, n),
     )
 
--- src/lib.rt:47:1
 same-length : tie.Need-same-length
 same-length c = search needs
 
--- src/lib.rt:47:1
 returns-4 : tie.Need-returns-4
 returns-4 c =
     answered-done _ _ _ (c .before .before .before .before .before .before .before .before .before .before .before .before .before .before .before .before .before .test-size .ensures) (c .before .before .before .before .before .before .before .before .before .before .before .before .before .before .before .enum-told .given .1) _ (c .before .before .before .before .before .before .before .before .before .before .before .before .before .before .test-rows .ensures) (c .before .before .before .before .before .before .before .before .before .before .before .before .enum-told2 .given .1) _ _ _ _ (lit≤ tt) (c .before .before .before .before .before .before .before .before .before .work-all .ensures) (c .before .before .before .before .before .enum-told3 .given .1) (c .before .before .copy-front .ensures)

@@ -1,14 +1,12 @@
+-- `whole::work_all` meets its contract: the rows below i are done, and what is left of the calculation is that of the rows from i on.
+-- Assumes nothing.
 use native.Mathlib.Omega.{arith}
 use borrow.Author.Needs.{needs}
-use mathlib.Core.Path.{_≡_, refl, sym, ap, _∙_}
+use mathlib.Core.Path.{_∙_}
 use Prim.Native.Nat.{_-_}
 use Rattle.whole.proofs.AllLaws.{Passing, all-start, all-ready, all-refused, all-next, all-end}
-use lib.ListN.{length}
 use Rattle.whole.proofs.work_all.Statement.{statement}
 use Rattle.whole.proofs.work_all.Tie as tie
-use Rattle.whole.proofs.work_all.Reads as reads
-use Rattle.whole.proofs.work_all.Lts as lts
-use Rattle.work.proofs.work_row.Reads as work-row-reads
 
 abbrev Inv-loop : tie.InvT-loop
 Inv-loop list n card₀ sums₀ i₀ card sums i = Passing list card₀ sums₀ card sums i
@@ -16,28 +14,22 @@ Inv-loop list n card₀ sums₀ i₀ card sums i = Passing list card₀ sums₀ 
 abbrev μ-loop : tie.MeasureT-loop
 μ-loop list n card₀ sums₀ i₀ card sums i = n - i
 
--- src/lib.rt:25:5
 loop-holds : tie.Need-loop-holds Inv-loop μ-loop
 loop-holds c = all-start _ _ _ _ (c .before .before .before .pre)
 
--- src/lib.rt:26:13
 work-row-requires : tie.Need-work-row-requires Inv-loop μ-loop
 work-row-requires c κs =
     all-ready _ _ _ _ _ _ (c .before .before .before .loop .inv) (omega (arith, c .before .before .loop-test .taken, c .before .before .before .before .before .before .before .pre .all-rows))
 
--- src/lib.rt:27:32
 enum-known-tested : tie.Need-enum-known-tested Inv-loop μ-loop
 enum-known-tested c = search needs
 
--- src/lib.rt:28:13
 same-length : tie.Need-same-length Inv-loop μ-loop
 same-length c = c .before .before .before .before .before .before .before .work-row .kept .1 .1 .0 ∙ c .before .before .before .before .before .before .before .before .before .before .before .loop .inv .card-length
 
--- src/lib.rt:28:13
 same-length-2 : tie.Need-same-length-2 Inv-loop μ-loop
 same-length-2 c = c .before .before .before .before .before .before .before .work-row .kept .1 .1 .1 .0 ∙ c .before .before .before .before .before .before .before .before .before .before .before .loop .inv .sums-length
 
--- src/lib.rt:28:13
 returns : tie.Need-returns Inv-loop μ-loop
 returns c =
     all-refused _ _ _ _ _ _ (c .before .before .before .before .before .before .before .before .before .before .before .loop .inv) (omega (arith, c .before .before .before .before .before .before .before .before .before .before .loop-test .taken, c .before .before .before .before .before .before .before .before .before .before .before .before .before .before .before .pre .all-rows)) _ _ _ _ (c .before .tested .given .1) (c .before .before .before .before .before .before .before .work-row .ensures)
@@ -45,28 +37,22 @@ returns c =
 enum-told : tie.Need-enum-told Inv-loop μ-loop
 enum-told c = search needs
 
--- src/lib.rt:30:9
 add-i : tie.Need-add-i Inv-loop μ-loop
 add-i c = omega arith
 
--- src/lib.rt:25:5
 loop-less : tie.Need-loop-less Inv-loop μ-loop
 loop-less c = omega arith
 
--- src/lib.rt:25:5
 loop-again : tie.Need-loop-again Inv-loop μ-loop
 loop-again c =
     all-next _ _ _ _ _ _ (c .before .before .before .before .before .before .before .before .before .before .loop .inv) (omega (arith, c .before .before .before .before .before .before .before .before .before .loop-test .taken, c .before .before .before .before .before .before .before .before .before .before .before .before .before .before .pre .all-rows)) _ _ _ (c .enum-told .given .1) (c .before .before .before .before .before .before .work-row .ensures)
 
--- src/lib.rt:20:1
 same-length-3 : tie.Need-same-length-3 Inv-loop μ-loop
 same-length-3 c = c .before .loop .inv .card-length
 
--- src/lib.rt:20:1
 same-length-4 : tie.Need-same-length-4 Inv-loop μ-loop
 same-length-4 c = c .before .loop .inv .sums-length
 
--- src/lib.rt:20:1
 returns-2 : tie.Need-returns-2 Inv-loop μ-loop
 returns-2 c = all-end _ _ _ _ _ _ (c .before .loop .inv) (omega (arith, c .loop-test .left, c .before .before .before .before .before .pre .all-rows))
 

@@ -1,3 +1,5 @@
+-- `work::push` meets its contract: the feeder's four numbers are read, joined with what the row asks, and put back.
+-- Assumes nothing.
 use native.Mathlib.Omega.{arith}
 use borrow.Author.Needs.{needs}
 use Rattle.work.proofs.StepLaws.{pushed-source, pushed-feeder}
@@ -7,30 +9,19 @@ use Rattle.settle.specs.declared.Fed.{Fed}
 use Rattle.settle.proofs.PickupLaws.{current-volts}
 use Rattle.work.proofs.push.Statement.{statement}
 use Rattle.work.proofs.push.Tie as tie
-use Rattle.work.proofs.push.Reads as reads
-use Rattle.work.proofs.push.Lts as lts
-use Rattle.settle.proofs.asks.Reads as asks-reads
-use Rattle.work.proofs.fed_at.Reads as fed-at-reads
-use Rattle.work.proofs.join.Reads as join-reads
-use Rattle.work.proofs.put_fed.Reads as put-fed-reads
 
--- src/lib.rt:84:9
 returns : tie.Need-returns
 returns c = pushed-source _ _ _ _ (c .if1 .taken)
 
--- src/lib.rt:86:14
 sub-k : tie.Need-sub-k
 sub-k c = search needs
 
--- src/lib.rt:87:18
 fed-at-requires : tie.Need-fed-at-requires
 fed-at-requires c κs = c .before .before .before .before .before .pre .has-place (pos-of-ne-zero (c .before .before .if1 .left))
 
--- src/lib.rt:87:35
 asks-requires : tie.Need-asks-requires
 asks-requires c κs = search needs
 
--- src/lib.rt:87:9
 join-requires : tie.Need-join-requires
 join-requires c κs =
     let a = c .before .before .before .before .before .before .before .pre in
@@ -42,15 +33,12 @@ join-requires c κs =
       current-volts (a .bounded .work-to) (a .bounded .volts-to),
     )
 
--- src/lib.rt:88:5
 put-fed-requires : tie.Need-put-fed-requires
 put-fed-requires c κs = c .before .before .before .before .before .before .before .before .before .pre .has-place (pos-of-ne-zero (c .before .before .before .before .before .before .if1 .left))
 
--- src/lib.rt:79:1
 same-length : tie.Need-same-length
 same-length c = search needs
 
--- src/lib.rt:79:1
 returns-2 : tie.Need-returns-2
 returns-2 c =
     c .before .before .put-fed .ensures ∙

@@ -1,4 +1,5 @@
-use native.Mathlib.Omega.{arith}
+-- `work::work_row` meets its contract: the row is settled by its four numbers; a refusal touches nothing, and an outcome goes to the card and to the sums.
+-- Assumes nothing.
 use borrow.Author.Needs.{needs}
 use mathlib.Core.Path.{sym, _∙_, subst}
 use Rattle.rows.specs.InRange.{Bounded}
@@ -7,53 +8,36 @@ use Rattle.settle.proofs.OutcomeLaws.{set-bounded}
 use Rattle.work.proofs.StepLaws.{step-no-pickup, step-no-delay, step-set}
 use Rattle.work.proofs.work_row.Statement.{statement}
 use Rattle.work.proofs.work_row.Tie as tie
-use Rattle.work.proofs.work_row.Reads as reads
-use Rattle.work.proofs.work_row.Lts as lts
-use Rattle.rows.proofs.row_at.Reads as row-at-reads
-use Rattle.settle.proofs.settle.Reads as settle-reads
-use Rattle.work.proofs.fed_at.Reads as fed-at-reads
-use Rattle.work.proofs.push.Reads as push-reads
-use Rattle.work.proofs.put_row.Reads as put-row-reads
 
--- src/lib.rt:96:9
 row-at-requires : tie.Need-row-at-requires
 row-at-requires c κs = search needs
 
--- src/lib.rt:97:21
 fed-at-requires : tie.Need-fed-at-requires
 fed-at-requires c κs = search needs
 
--- src/lib.rt:97:11
 settle-requires : tie.Need-settle-requires
 settle-requires c κs =
     let a = c .before .before .before .before .before .before .pre in
     (subst Bounded (sym (c .before .before .row-at .ensures)) (a .bounded), subst FedBounded (sym (c .fed-at .ensures)) (a .fed-bounded))
 
--- src/lib.rt:98:62
 enum-told : tie.Need-enum-told
 enum-told c = search needs
 
--- src/lib.rt:98:61
 add-t13 : tie.Need-add-t13
 add-t13 c = search needs
 
--- src/lib.rt:99:60
 enum-told-2 : tie.Need-enum-told-2
 enum-told-2 c = search needs
 
--- src/lib.rt:99:59
 add-t16 : tie.Need-add-t16
 add-t16 c = search needs
 
--- src/lib.rt:100:22
 enum-known-o : tie.Need-enum-known-o
 enum-known-o c = search needs
 
--- src/lib.rt:101:13
 put-row-requires : tie.Need-put-row-requires
 put-row-requires c κs = search needs
 
--- src/lib.rt:102:13
 push-requires : tie.Need-push-requires
 push-requires c κs =
     let a = c .before .before .before .before .before .before .before .before .before .before .before .before .before .before .before .pre in
@@ -61,31 +45,24 @@ push-requires c κs =
     rw (c .before .before .before .before .before .before .before .before .before .before .before .row-at .ensures)
     (record { bounded = a .bounded; pickup-to = q .0; delay-to = q .1; has-place = a .has-place; load-fits = a .load-fits })
 
--- src/lib.rt:92:1
 same-length : tie.Need-same-length
 same-length c = search needs
 
--- src/lib.rt:92:1
 returns : tie.Need-returns
 returns c = step-no-pickup _ _ _ _ _ _ (c .before .before .before .before .before .row-at .ensures) (c .before .before .before .fed-at .ensures) (sym (c .enum-told .given .1) ∙ c .before .before .settle .ensures)
 
--- src/lib.rt:92:1
 same-length-2 : tie.Need-same-length-2
 same-length-2 c = search needs
 
--- src/lib.rt:92:1
 returns-2 : tie.Need-returns-2
 returns-2 c = step-no-delay _ _ _ _ _ _ (c .before .before .before .before .before .row-at .ensures) (c .before .before .before .fed-at .ensures) (sym (c .enum-told2 .given .1) ∙ c .before .before .settle .ensures)
 
--- src/lib.rt:92:1
 same-length-3 : tie.Need-same-length-3
 same-length-3 c = search needs
 
--- src/lib.rt:92:1
 same-length-4 : tie.Need-same-length-4
 same-length-4 c = search needs
 
--- src/lib.rt:92:1
 returns-3 : tie.Need-returns-3
 returns-3 c =
     step-set _ _ _ _ _ _ (c .before .before .before .before .before .before .before .before .before .before .before .before .before .before .row-at .ensures) (c .before .before .before .before .before .before .before .before .before .before .before .before .fed-at .ensures) _ _ _ (sym (c .before .before .before .before .before .before .before .before .before .o .given .1) ∙ c .before .before .before .before .before .before .before .before .before .before .before .settle .ensures)
