@@ -1,5 +1,6 @@
 // Leaf arithmetic: the least available value of a grid low, low + step, .. up to high.
 ghost use mathlib.Core.Path.{_≡_};
+ghost use Prim.Native.Nat.{max};
 ghost use lib.Dec.{leb};
 ghost use Rattle.grid.specs.Grid.{leastOn};
 ghost use Rattle.grid.specs.Round.{ceilDiv};
@@ -8,6 +9,13 @@ ghost use Rattle.grid.specs.Round.{ceilDiv};
 pub enum Found {
     At(u64),
     Nothing,
+}
+
+// The greater of two numbers.
+pub fn greater(a: u64, b: u64) -> u64
+    ensures { λ r. ⌜ r ≡ max a b ⌝ }
+{
+    if a <= b { b } else { a }
 }
 
 // n / d rounded up; 0 where d is 0.

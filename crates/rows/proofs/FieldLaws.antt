@@ -1,5 +1,5 @@
 -- Laws of `fieldRight`, one for each way that a field is judged. Assumes nothing.
-use mathlib.Core.Path.{_≡_, refl, sym, _∙_}
+use mathlib.Core.Path.{_≡_, refl, sym, ap, _∙_}
 use mathlib.Core.Bool.{Bool, true, false, not, _&&_, _||_}
 use mathlib.Core.List.{List}
 use Prim.Native.Nat.{ℕ, _+_, _*_, _≤_, _<_}
@@ -45,18 +45,22 @@ module _ (lo hi x k p : ℕ) where
       leb-true x hi
       (and-left (leb x hi) (not (eqb k 0) || eqb x p) (and-right (leb lo x) (leb x hi && (not (eqb k 0) || eqb x p)) r))
 
-module _ (l : List ℕ) (i k x : ℕ) (e : x ≡ field l i k) where
-  pub right-below : x < getD bounds (2 * k) 0 → false ≡ fieldRight l i k
-  right-below h = rw (← is-test l i k x e) (test-below _ _ x k (i + 1) h)
+-- by a table t that is that of the bounds
+module _ (l : List ℕ) (i k x : ℕ) (e : x ≡ field l i k) (t : List ℕ) (b : t ≡ bounds) where
+  by-table : test (getD t (2 * k) 0) (getD t (2 * k + 1) 0) x k (i + 1) ≡ fieldRight l i k
+  by-table = ap (λ (u : List ℕ). test (getD u (2 * k) 0) (getD u (2 * k + 1) 0) x k (i + 1)) b ∙ is-test l i k x e
 
-  pub right-above : getD bounds (2 * k) 0 ≤ x → getD bounds (2 * k + 1) 0 < x → false ≡ fieldRight l i k
-  right-above g h = rw (← is-test l i k x e) (test-above _ _ x k (i + 1) g h)
+  pub right-below : x < getD t (2 * k) 0 → false ≡ fieldRight l i k
+  right-below h = test-below _ _ x k (i + 1) h ∙ by-table
 
-  pub right-own : getD bounds (2 * k) 0 ≤ x → x ≤ getD bounds (2 * k + 1) 0 → k ≡ 0 → eqb x (i + 1) ≡ fieldRight l i k
-  right-own g h z = rw (← is-test l i k x e) (test-own _ _ x k (i + 1) g h z)
+  pub right-above : getD t (2 * k) 0 ≤ x → getD t (2 * k + 1) 0 < x → false ≡ fieldRight l i k
+  right-above g h = test-above _ _ x k (i + 1) g h ∙ by-table
 
-  pub right-other : getD bounds (2 * k) 0 ≤ x → x ≤ getD bounds (2 * k + 1) 0 → (k ≡ 0 → ⊥) → true ≡ fieldRight l i k
-  right-other g h z = rw (← is-test l i k x e) (test-other _ _ x k (i + 1) g h z)
+  pub right-own : getD t (2 * k) 0 ≤ x → x ≤ getD t (2 * k + 1) 0 → k ≡ 0 → eqb x (i + 1) ≡ fieldRight l i k
+  right-own g h z = test-own _ _ x k (i + 1) g h z ∙ by-table
+
+  pub right-other : getD t (2 * k) 0 ≤ x → x ≤ getD t (2 * k + 1) 0 → (k ≡ 0 → ⊥) → true ≡ fieldRight l i k
+  right-other g h z = test-other _ _ x k (i + 1) g h z ∙ by-table
 
 -- what a field that is right is
 module _ (l : List ℕ) (i k : ℕ) (r : fieldRight l i k ≡ true) where

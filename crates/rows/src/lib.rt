@@ -7,7 +7,7 @@ ghost use lib.ListN.{length};
 ghost use Rattle.grid.specs.First.{first};
 ghost use Rattle.rows.specs.Answer.{givenBy};
 ghost use Rattle.rows.specs.Row.{field, rowAt, rows};
-ghost use Rattle.rows.specs.Tests.{fieldRight, rowFault, rowAtFault, feedsRight, fedWrongly, sizeTest, treeTest, rowsTest};
+ghost use Rattle.rows.specs.Tests.{bounds, fieldRight, rowFault, rowAtFault, feedsRight, fedWrongly, sizeTest, treeTest, rowsTest};
 
 pub const FIELDS: usize = 18;
 
@@ -183,13 +183,14 @@ pub fn row_at(list: &[u64], i: usize) -> Row
     }
 }
 
-fn field_right(list: &[u64], i: usize, k: usize) -> bool
-    requires { ⌜ (i * 18 + k < length (now list)) × (k < 18) ⌝ }
+// The table goes by reference: indexed as the constant, it would be made anew for each field.
+fn field_right(list: &[u64], table: &[u64; 36], i: usize, k: usize) -> bool
+    requires { ⌜ (i * 18 + k < length (now list)) × (k < 18) × (now table ≡ bounds) ⌝ }
     ensures { λ r. ⌜ r ≡ fieldRight (now (list .entry)) i k ⌝ }
 {
     let x = field_at(list, i, k);
-    let least = BOUNDS[2 * k];
-    let greatest = BOUNDS[2 * k + 1];
+    let least = table[2 * k];
+    let greatest = table[2 * k + 1];
     if x < least {
         return false;
     }
@@ -203,13 +204,13 @@ fn field_right(list: &[u64], i: usize, k: usize) -> bool
 }
 
 // The first field at fault of a row, from 1; 0 where there is none.
-fn row_fault(list: &[u64], i: usize) -> u64
-    requires { ⌜ i * 18 + 18 ≤ length (now list) ⌝ }
+fn row_fault(list: &[u64], table: &[u64; 36], i: usize) -> u64
+    requires { ⌜ (i * 18 + 18 ≤ length (now list)) × (now table ≡ bounds) ⌝ }
     ensures { λ r. ⌜ r ≡ rowFault (now (list .entry)) i ⌝ }
 {
     let mut k = 0;
     while k < FIELDS {
-        if !field_right(list, i, k) {
+        if !field_right(list, table, i, k) {
             return (k as u64) + 1;
         }
         k += 1;
@@ -224,9 +225,10 @@ fn first_row_at_fault(list: &[u64]) -> Found
     ensures { λ r. ⌜ r ≡ first (rowAtFault (now (list .entry))) 0 (rows (now (list .entry))) ⌝ }
 {
     let n = list.len() / FIELDS;
+    let table = BOUNDS;
     let mut i = 0;
     while i < n {
-        if row_fault(list, i) != 0 {
+        if row_fault(list, &table, i) != 0 {
             return Found::At(i as u64);
         }
         i += 1;
@@ -283,7 +285,10 @@ pub fn test_rows(list: &[u64]) -> Tested
     ensures { λ r. ⌜ r ≡ rowsTest (now (list .entry)) ⌝ }
 {
     match first_row_at_fault(list) {
-        Found::At(i) => Tested::Refused(Answer::Field(i + 1, row_fault(list, i as usize))),
+        Found::At(i) => {
+            let table = BOUNDS;
+            Tested::Refused(Answer::Field(i + 1, row_fault(list, &table, i as usize)))
+        }
         Found::Nothing => test_tree(list),
     }
 }

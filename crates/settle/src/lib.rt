@@ -1,11 +1,12 @@
 // Section 3 of the scope: one row's least settings, from its fields and what the rows that it feeds ask of it.
 use grid::Found;
 use grid::ceil_div;
+use grid::greater;
 use grid::least_on;
 use rows::Row;
 ghost use mathlib.Core.Path.{_≡_};
 ghost use mathlib.Core.Bool.{_&&_};
-ghost use Prim.Native.Nat.{ℕ, _-_, _≤_, max};
+ghost use Prim.Native.Nat.{ℕ, _-_, _≤_};
 ghost use lib.Dec.{leb};
 ghost use Rattle.rows.specs.InRange.{Bounded};
 ghost use Rattle.settle.specs.Conditions.{returnsAfterSelfStart, seesOwnZone, seesNear, margin};
@@ -47,12 +48,6 @@ fn over(a: u64, b: u64) -> u64
     ensures { λ r. ⌜ r ≡ a - b ⌝ }
 {
     if a <= b { 0 } else { a - b }
-}
-
-fn greater(a: u64, b: u64) -> u64
-    ensures { λ r. ⌜ r ≡ max a b ⌝ }
-{
-    if a <= b { b } else { a }
 }
 
 // The least pickup that P1 and P2 allow, available or not.

@@ -1,13 +1,15 @@
 -- Rounding a fraction to a whole number, over plain numbers: `wholeOf` is the least whole number at or above the fraction and the
 -- greatest at or below it, since a quotient's remainder is below the divisor. So equal fractions round alike. Assumes nothing.
 use Prim.Native.Nat.{ℕ, zero, suc, _+_, _-_, _*_, _≤_, _<_}
-use native.Mathlib.Nat.{le-trans, le-of-eq, le-antisymm, zero-mul, suc-mul, mul-one, mul-right-comm, mul-le-mul-right, le-of-mul-le-mul-right, lt-of-mul-lt-mul-right, mod-lt, div-mul-le-self, div-add-mod', div-eq-of-lt, le-div-iff-mul-le}
+use native.Mathlib.Nat.{le-trans, le-of-eq, le-antisymm, zero-mul, suc-mul, mul-one, mul-right-comm, mul-le-mul-right, le-of-mul-le-mul-right, div-mul-le-self, div-eq-of-lt, le-div-iff-mul-le}
 use native.Mathlib.Omega.{arith}
 use mathlib.Core.Path.{_≡_, sym}
 use lib.Dec.{lit<}
 use lib.Ieee.Nearest.{div-mono}
 use Rattle.study.specs.declared.single.Rounding.{Rounding}
 use Rattle.study.specs.declared.single.Rounding.the-variants.{Up, Down}
+use Rattle.grid.specs.Round.{ceilDiv}
+use Rattle.grid.proofs.RoundLaws.{ceilDiv-enough, ceilDiv-least}
 use Rattle.study.specs.Exact.{wholeOf, Rounds}
 
 -- ---- floor and ceiling by inequalities
@@ -19,13 +21,12 @@ pub floor-greatest : (n d j : ℕ) → 0 < d → j * d ≤ n → j ≤ wholeOf D
 floor-greatest n d j D h = le-div-iff-mul-le D .1 h
 
 pub ceiling-at-least : (n d : ℕ) → 0 < d → n ≤ wholeOf Up n d * d
-ceiling-at-least n d D = omega (arith, div-add-mod' (n + (d - 1)) d, mod-lt (n + (d - 1)) D)
+unfolding ceilDiv
+ceiling-at-least n d D = ceilDiv-enough n d D
 
 pub ceiling-least : (n d j : ℕ) → 0 < d → n ≤ j * d → wholeOf Up n d ≤ j
-ceiling-least n d j D h =
-    let below : wholeOf Up n d * d < suc j * d = omega (arith, div-mul-le-self (n + (d - 1)) d, suc-mul j d) in
-    let less : wholeOf Up n d < suc j = lt-of-mul-lt-mul-right d below in
-    omega arith
+unfolding ceilDiv
+ceiling-least n d j D h = ceilDiv-least n d j D h
 
 pub whole-rounds : (to : Rounding) (n d : ℕ) → 0 < d → Rounds to n d (wholeOf to n d)
 whole-rounds Up n d D = (ceiling-at-least n d D, λ j h. ceiling-least n d j D h)

@@ -1,5 +1,6 @@
 // One row worked out on a lent card. What a row's fed rows ask of it is kept in `sums`, four numbers a row, and each
 // row that is worked out adds its own for the row that feeds it: so no row looks at its fed rows again.
+use grid::greater;
 use rows::Answer;
 use rows::Row;
 use rows::Tested;
@@ -11,7 +12,7 @@ use settle::asks;
 use settle::printed_cutoff;
 use settle::settle;
 ghost use mathlib.Core.Path.{_≡_};
-ghost use Prim.Native.Nat.{_+_, _-_, _*_, _<_, _≤_, max};
+ghost use Prim.Native.Nat.{_+_, _-_, _*_, _<_, _≤_};
 ghost use lib.ListN.{length};
 ghost use Rattle.rows.specs.InRange.{Bounded};
 ghost use Rattle.rows.specs.Row.{rowAt};
@@ -53,12 +54,6 @@ fn put_row(card: &mut [u64], i: usize, o: Outcome)
     card[at] = o.pickup;
     card[at + 1] = o.delay;
     card[at + 2] = printed_cutoff(cutoff);
-}
-
-fn greater(a: u64, b: u64) -> u64
-    ensures { λ r. ⌜ r ≡ max a b ⌝ }
-{
-    if a <= b { b } else { a }
 }
 
 fn join(a: Fed, b: Fed) -> Fed

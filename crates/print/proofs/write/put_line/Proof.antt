@@ -1,0 +1,43 @@
+-- `put_line` meets its contract: name, fields and CRLF are written one behind the other.
+-- Assumes nothing.
+use mathlib.Core.List.{_++_}
+use native.Mathlib.Omega.{arith}
+use lib.ListN.{drop, length-append}
+use denote.Ref.{now}
+use borrow.Author.Needs.{needs}
+use Rattle.print.specs.Card.{fieldsText, lineText, lineEnd}
+use Rattle.print.proofs.FieldsLaws.{fields-short}
+use Rattle.print.proofs.WriteLaws.{wrote-then}
+use Rattle.print.proofs.write.put_line.Statement.{statement}
+use Rattle.print.proofs.write.put_line.Tie as tie
+
+put-bytes-requires : tie.Need-put-bytes-requires
+put-bytes-requires c κs = search needs
+
+put-fields-requires : tie.Need-put-fields-requires
+put-fields-requires c κs = search needs
+
+put-end-requires : tie.Need-put-end-requires
+put-end-requires c κs =
+    let a = c .before .before .before .before .before .before .before .before .before .before .before .before .args in
+    let s = fields-short 3 (drop (a .from) (now (a .card))) in
+    omega (arith, s, c .before .before .before .before .before .before .before .put-bytes .ensures .end, c .before .before .before .put-fields .ensures .end, c .before .before .before .before .before .before .before .put-bytes .kept .0, c .before .before .before .put-fields .kept .0, c .before .before .before .before .before .before .before .before .before .before .before .before .pre .0)
+
+same-length : tie.Need-same-length
+same-length c = search needs
+
+returns : tie.Need-returns
+unfolding lineText
+returns c =
+    let a = c .before .before .before .before .before .before .before .before .before .before .before .before .before .before .before .args in
+    let f = fieldsText 3 (drop (a .from) (now (a .card))) in
+    let s = fields-short 3 (drop (a .from) (now (a .card))) in
+    let n = length-append (now (a .name)) f in
+    wrote-then (now (a .out)) (a .at) (now (a .name) ++ f) _ (c .before .before .before .before .before .before .put-fields .result) lineEnd _ _ (omega (arith, s, n, c .before .before .before .before .before .before .before .before .before .before .before .before .before .before .before .pre .0))
+    (wrote-then (now (a .out)) (a .at) (now (a .name)) _ (c .before .before .before .before .before .before .before .before .before .before .put-bytes .result) f _ _ (omega (arith, s, c .before .before .before .before .before .before .before .before .before .before .before .before .before .before .before .pre .0)) (c .before .before .before .before .before .before .before .before .before .before .put-bytes .ensures) (c .before .before .before .before .before .before .put-fields .ensures))
+    (c .before .before .put-end .ensures)
+
+pub put-line-spec : {M : Type 1} → statement M
+put-line-spec =
+    tie.close
+    (tie.spec put-bytes-requires put-fields-requires put-end-requires same-length returns)

@@ -1,0 +1,104 @@
+-- The card and a refusal as they are printed [01 §6]. Definitions only.
+use mathlib.Core.Path.{_≡_}
+use mathlib.Core.Bool.{Bool, true, cond, _&&_}
+use mathlib.Core.List.{List, [], _∷_, _++_}
+use Prim.Native.Nat.{ℕ, zero, suc, _+_, _-_, _*_, _/_, _≤_}
+use lib.Dec.{leb}
+use lib.ListN.{length, getD, take, drop}
+use Rattle.grid.specs.Fold.{every}
+use Rattle.text.specs.Pieces.{nameMost}
+use Rattle.text.specs.Names.{namesAt}
+use Rattle.print.specs.Write.{digitsMost, numberText, written}
+
+-- a card row has so many numbers
+abbrev pub cardCount : ℕ
+cardCount = 3
+
+-- name,pickup,delay,cutoff
+abbrev pub cardHeader : List ℕ
+cardHeader = 110 ∷ 97 ∷ 109 ∷ 101 ∷ 44 ∷ 112 ∷ 105 ∷ 99 ∷ 107 ∷ 117 ∷ 112 ∷ 44 ∷ 100 ∷ 101 ∷ 108 ∷ 97 ∷ 121 ∷ 44 ∷ 99 ∷ 117 ∷ 116 ∷ 111 ∷ 102 ∷ 102 ∷ 13 ∷ 10 ∷ []
+
+-- refused,place,field
+abbrev pub refusalHeader : List ℕ
+refusalHeader = 114 ∷ 101 ∷ 102 ∷ 117 ∷ 115 ∷ 101 ∷ 100 ∷ 44 ∷ 112 ∷ 108 ∷ 97 ∷ 99 ∷ 101 ∷ 44 ∷ 102 ∷ 105 ∷ 101 ∷ 108 ∷ 100 ∷ 13 ∷ 10 ∷ []
+
+abbrev pub lineEnd : List ℕ
+lineEnd = 13 ∷ 10 ∷ []
+
+-- k numbers, each behind a comma
+unfoldable pub fieldsText : ℕ → List ℕ → List ℕ
+fieldsText zero card = []
+fieldsText (suc k) card = (44 ∷ numberText (getD card 0 0)) ++ fieldsText k (drop 1 card)
+
+-- the name and the numbers of one row
+unfoldable pub lineText : List ℕ → List ℕ → List ℕ
+lineText name card = name ++ fieldsText cardCount card ++ lineEnd
+
+-- a line for each name, with the next numbers of the card
+unfoldable pub rowsText : List (List ℕ) → List ℕ → List ℕ
+rowsText [] card = []
+rowsText (name ∷ names) card = lineText name card ++ rowsText names (drop cardCount card)
+
+unfoldable pub cardText : List (List ℕ) → List ℕ → List ℕ
+cardText names card = cardHeader ++ rowsText names card
+
+unfoldable pub refusalText : ℕ → ℕ → ℕ → List ℕ
+refusalText number place field =
+    refusalHeader ++ numberText number ++ (44 ∷ numberText place) ++ (44 ∷ numberText field) ++ lineEnd
+
+-- the bytes of the card's header, and at most those of a field, of the fields, of a line of the card and of a refusal
+abbrev pub headerSize : ℕ
+headerSize = 26
+
+abbrev pub fieldMost : ℕ
+fieldMost = digitsMost + 1
+
+abbrev pub fieldsMost : ℕ
+fieldsMost = cardCount * fieldMost
+
+abbrev pub lineMost : ℕ
+lineMost = nameMost + fieldsMost + 2
+
+abbrev pub refusalMost : ℕ
+refusalMost = 85
+
+-- name i has at most 24 bytes and stands inside a text of so many bytes
+unfoldable pub placeRight : ℕ → List ℕ → ℕ → Bool
+placeRight size places i =
+    leb (getD places (i * 2 + 1) 0) nameMost && leb (getD places (i * 2) 0) size &&
+    leb (getD places (i * 2 + 1) 0) (size - getD places (i * 2) 0)
+
+-- what printing n rows from `at` on asks
+pub record RowsFit (size : ℕ) (places : List ℕ) (card n at room : ℕ) : Type 0 where
+  pub out-room : at + n * lineMost ≤ room
+  pub names : n * 2 ≤ length places
+  pub numbers : n * cardCount ≤ card
+  pub right : every n (placeRight size places) ≡ true
+
+-- what printing row i at `at` asks
+pub record RowFits (size : ℕ) (places : List ℕ) (card i at room : ℕ) : Type 0 where
+  pub out-room : at + lineMost ≤ room
+  pub names : i * 2 + 2 ≤ length places
+  pub numbers : i * cardCount + cardCount ≤ card
+  pub right : placeRight size places i ≡ true
+
+-- n rows can be printed: there is room for the longest lines, and names and card have n rows
+unfoldable pub printable : ℕ → List ℕ → ℕ → ℕ → ℕ → Bool
+printable size places card n room =
+    leb headerSize room && leb n ((room - headerSize) / lineMost) && leb n (length places / 2) && leb n (card / cardCount) &&
+    every n (placeRight size places)
+
+-- what is printed: the card, or nothing where it cannot be
+unfoldable pub cardPrinted : List ℕ → List ℕ → List ℕ → ℕ → ℕ → List ℕ
+cardPrinted s places card n room =
+    cond (printable (length s) places (length card) n room) (cardText (namesAt s n places) card) []
+
+unfoldable pub refusalPrinted : ℕ → ℕ → ℕ → ℕ → List ℕ
+refusalPrinted number place field room = cond (leb refusalMost room) (refusalText number place field) []
+
+-- What printing leaves: the bytes at the start of the buffer, their number as the answer, and the rest of the buffer as it was.
+pub record Printed (out xs out′ : List ℕ) (r : ℕ) : Type 0 where
+  pub fits : r ≤ length out′
+  pub bytes : take r out′ ≡ xs
+  pub buffer : out′ ≡ written out 0 xs
+  pub count : r ≡ length xs

@@ -1,0 +1,127 @@
+// Printing the card and a refusal [01 §6].
+mod write;
+
+use write::CARD;
+use write::put_bytes;
+use write::put_end;
+use write::put_field;
+use write::put_line;
+use write::put_number;
+ghost use mathlib.Core.Path.{_≡_};
+ghost use Prim.Native.Nat.{_+_, _*_, _≤_};
+ghost use lib.ListN.{length, drop};
+ghost use Rattle.grid.specs.Fold.{every};
+ghost use Rattle.text.specs.Names.{nameAtPlace, namesAt};
+ghost use Rattle.print.specs.Write.{Wrote};
+ghost use Rattle.print.specs.Card.{cardCount, lineText, rowsText, placeRight, printable, RowFits, RowsFit, Printed, cardPrinted, refusalPrinted};
+
+// A name has at most so many bytes.
+const NAME_MOST: u64 = 24;
+
+// The bytes of the card's header, of one line of the card and of a refusal, at most.
+const HEADER: usize = 26;
+
+const LINE_MOST: usize = 24 + CARD * 21 + 2;
+
+const REFUSAL_MOST: usize = 85;
+
+// Name i has at most 24 bytes and stands inside the text.
+fn place_right(size: usize, names: &[u64], i: usize) -> bool
+    requires { ⌜ i * 2 + 2 ≤ length (now names) ⌝ }
+    ensures { λ r. ⌜ r ≡ placeRight size (now (names .entry)) i ⌝ }
+{
+    let at = i * 2;
+    let start = names[at] as usize;
+    let long = names[at + 1];
+    if NAME_MOST < long {
+        return false;
+    }
+    if size < start {
+        return false;
+    }
+    long as usize <= size - start
+}
+
+fn places_right(size: usize, names: &[u64], n: usize) -> bool
+    requires { ⌜ n * 2 ≤ length (now names) ⌝ }
+    ensures { λ r. ⌜ r ≡ every n (placeRight size (now (names .entry))) ⌝ }
+{
+    let mut i = 0;
+    while i < n {
+        if !place_right(size, names, i) {
+            return false;
+        }
+        i += 1;
+    }
+    true
+}
+
+// There is room for n rows, and names and card have them.
+fn can_print(size: usize, names: &[u64], card: usize, n: usize, room: usize) -> bool
+    ensures { λ r. ⌜ r ≡ printable size (now (names .entry)) card n room ⌝ }
+{
+    if room < HEADER {
+        return false;
+    }
+    if (room - HEADER) / LINE_MOST < n {
+        return false;
+    }
+    if names.len() / 2 < n {
+        return false;
+    }
+    if card / CARD < n {
+        return false;
+    }
+    places_right(size, names, n)
+}
+
+// The line of row i.
+fn put_row(out: &mut [u8], at: usize, text: &[u8], names: &[u64], card: &[u64], i: usize) -> usize
+    requires { ⌜ RowFits (length (now text)) (now names) (length (now card)) i at (length (now out)) ⌝ }
+    ensures { λ r. ⌜ Wrote (now (out .entry)) at (lineText (nameAtPlace (now (text .entry)) (drop (i * 2) (now (names .entry)))) (drop (i * cardCount) (now (card .entry)))) (now (out .exit)) r ⌝ }
+{
+    let place = i * 2;
+    let start = names[place] as usize;
+    let end = start + names[place + 1] as usize;
+    put_line(out, at, &text[start..end], card, i * CARD)
+}
+
+// The lines of n rows.
+fn put_rows(out: &mut [u8], at: usize, text: &[u8], names: &[u64], card: &[u64], n: usize) -> usize
+    requires { ⌜ RowsFit (length (now text)) (now names) (length (now card)) n at (length (now out)) ⌝ }
+    ensures { λ r. ⌜ Wrote (now (out .entry)) at (rowsText (namesAt (now (text .entry)) n (now (names .entry))) (now (card .entry))) (now (out .exit)) r ⌝ }
+{
+    let mut i = 0;
+    let mut next = at;
+    while i < n {
+        next = put_row(out, next, text, names, card, i);
+        i += 1;
+    }
+    next
+}
+
+// The card of n rows: names as they stand in the text, by their start and length, and three numbers for each.
+// Nothing where there is no room for the longest lines, or names or card have no n rows.
+pub fn print_card(text: &[u8], names: &[u64], card: &[u64], n: usize, out: &mut [u8]) -> usize
+    ensures { λ r. ⌜ Printed (now (out .entry)) (cardPrinted (now (text .entry)) (now (names .entry)) (now (card .entry)) n (length (now (out .entry)))) (now (out .exit)) r ⌝ }
+{
+    if !can_print(text.len(), names, card.len(), n, out.len()) {
+        return 0;
+    }
+    let next = put_bytes(out, 0, b"name,pickup,delay,cutoff\r\n");
+    put_rows(out, next, text, names, card, n)
+}
+
+// A refusal in three numbers; nothing where the buffer has less than 85 bytes.
+pub fn print_refusal(number: u64, place: u64, field: u64, out: &mut [u8]) -> usize
+    ensures { λ r. ⌜ Printed (now (out .entry)) (refusalPrinted number place field (length (now (out .entry)))) (now (out .exit)) r ⌝ }
+{
+    if out.len() < REFUSAL_MOST {
+        return 0;
+    }
+    let named = put_bytes(out, 0, b"refused,place,field\r\n");
+    let numbered = put_number(out, named, number);
+    let placed = put_field(out, numbered, place);
+    let done = put_field(out, placed, field);
+    put_end(out, done)
+}

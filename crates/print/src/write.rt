@@ -1,0 +1,79 @@
+// Writing bytes, numbers and lines into a buffer, each from a place on; the answer is the place behind.
+ghost use mathlib.Core.Path.{_≡_};
+ghost use mathlib.Core.List.{[], _∷_};
+ghost use Prim.Native.Nat.{_+_, _≤_};
+ghost use lib.ListN.{length, drop};
+ghost use Rattle.print.specs.Write.{Wrote, digitsMost, numberText};
+ghost use Rattle.print.specs.Card.{cardCount, fieldMost, fieldsMost, fieldsText, lineText, lineEnd};
+
+// A card row has so many numbers.
+pub(crate) const CARD: usize = 3;
+
+pub(crate) fn put_bytes(out: &mut [u8], at: usize, block: &[u8]) -> usize
+    requires { ⌜ at + length (now block) ≤ length (now out) ⌝ }
+    ensures { λ r. ⌜ Wrote (now (out .entry)) at (now (block .entry)) (now (out .exit)) r ⌝ }
+{
+    let mut j = 0;
+    while j < block.len() {
+        out[at + j] = block[j];
+        j += 1;
+    }
+    at + j
+}
+
+// The digits of v, the first ones by the same function.
+pub(crate) fn put_number(out: &mut [u8], at: usize, v: u64) -> usize
+    requires { ⌜ at + digitsMost ≤ length (now out) ⌝ }
+    ensures { λ r. ⌜ Wrote (now (out .entry)) at (numberText v) (now (out .exit)) r ⌝ }
+{
+    let last = (v % 10 + 48) as u8;
+    if v < 10 {
+        out[at] = last;
+        return at + 1;
+    }
+    let next = put_number(out, at, v / 10);
+    out[next] = last;
+    next + 1
+}
+
+// A comma and a number.
+pub(crate) fn put_field(out: &mut [u8], at: usize, v: u64) -> usize
+    requires { ⌜ at + fieldMost ≤ length (now out) ⌝ }
+    ensures { λ r. ⌜ Wrote (now (out .entry)) at (44 ∷ numberText v) (now (out .exit)) r ⌝ }
+{
+    out[at] = 44;
+    put_number(out, at + 1, v)
+}
+
+pub(crate) fn put_end(out: &mut [u8], at: usize) -> usize
+    requires { ⌜ at + 2 ≤ length (now out) ⌝ }
+    ensures { λ r. ⌜ Wrote (now (out .entry)) at lineEnd (now (out .exit)) r ⌝ }
+{
+    out[at] = 13;
+    out[at + 1] = 10;
+    at + 2
+}
+
+// The numbers of one card row.
+pub(crate) fn put_fields(out: &mut [u8], at: usize, card: &[u64], from: usize) -> usize
+    requires { ⌜ (at + fieldsMost ≤ length (now out)) × (from + cardCount ≤ length (now card)) ⌝ }
+    ensures { λ r. ⌜ Wrote (now (out .entry)) at (fieldsText cardCount (drop from (now (card .entry)))) (now (out .exit)) r ⌝ }
+{
+    let mut k = 0;
+    let mut next = at;
+    while k < CARD {
+        next = put_field(out, next, card[from + k]);
+        k += 1;
+    }
+    next
+}
+
+// One line of the card.
+pub(crate) fn put_line(out: &mut [u8], at: usize, name: &[u8], card: &[u64], from: usize) -> usize
+    requires { ⌜ (at + length (now name) + fieldsMost + 2 ≤ length (now out)) × (from + cardCount ≤ length (now card)) ⌝ }
+    ensures { λ r. ⌜ Wrote (now (out .entry)) at (lineText (now (name .entry)) (drop from (now (card .entry)))) (now (out .exit)) r ⌝ }
+{
+    let named = put_bytes(out, at, name);
+    let numbered = put_fields(out, named, card, from);
+    put_end(out, numbered)
+}

@@ -1,0 +1,120 @@
+// The C boundary: the functions of include/surfpocket.h. Each calls one proved entry and hands its numbers on.
+use sheet::sheet;
+use study::Quantity;
+use study::Reading;
+use study::Study;
+use study::convert;
+use whole::whole;
+ghost use mathlib.Core.Path.{_≡_};
+ghost use lib.ListN.{length};
+ghost use Rattle.print.specs.Card.{Printed};
+ghost use Rattle.sheet.specs.Sheet.{sheetPrinted};
+ghost use Rattle.whole.specs.Whole.{whole};
+ghost use Rattle.surfpocket.specs.Answers.{Gave};
+ghost use Rattle.surfpocket.specs.Studies.{unitOf, studyOf, studied, refused};
+
+#[repr(C)]
+pub struct SurfpocketAnswer {
+    pub number: u64,
+    pub place: u64,
+    pub field: u64,
+}
+
+#[repr(C)]
+pub struct SurfpocketStudy {
+    pub number: u64,
+    pub place: u64,
+    pub greatest: u64,
+    pub least: u64,
+}
+
+// The whole calculation [01 §4].
+#[no_mangle]
+pub extern "C" fn surfpocket_whole(list: &[u64], card: &mut [u64]) -> SurfpocketAnswer
+    ensures { λ a. ⌜ Gave (whole (now (list .entry)) (now (card .entry))) a (now (card .exit)) ⌝ }
+{
+    let g = whole(list, card);
+    SurfpocketAnswer {
+        number: g.number,
+        place: g.place,
+        field: g.field,
+    }
+}
+
+// A single in the unit of that number, if there is one.
+enum InUnit {
+    Known(Quantity),
+    Unknown,
+}
+
+fn in_unit(unit: u64, x: f32) -> InUnit
+    ensures { λ q. ⌜ q ≡ unitOf unit x ⌝ }
+{
+    match unit {
+        1 => InUnit::Known(Quantity::Amperes(x)),
+        2 => InUnit::Known(Quantity::Kiloamperes(x)),
+        3 => InUnit::Known(Quantity::PerUnit(x)),
+        _ => InUnit::Unknown,
+    }
+}
+
+fn no_unit() -> SurfpocketStudy
+    ensures { λ a. ⌜ a ≡ refused ⌝ }
+{
+    SurfpocketStudy {
+        number: 8,
+        place: 0,
+        greatest: 0,
+        least: 0,
+    }
+}
+
+fn converted(s: Study) -> SurfpocketStudy
+    ensures { λ a. ⌜ a ≡ studied s ⌝ }
+{
+    let c = convert(s);
+    SurfpocketStudy {
+        number: c.number,
+        place: c.place,
+        greatest: c.greatest,
+        least: c.least,
+    }
+}
+
+// The study's currents [01 §5]: each reading by its unit's number, its single and the rated mA beside it.
+#[no_mangle]
+pub extern "C" fn surfpocket_study(
+    greatest_unit: u64,
+    greatest: f32,
+    greatest_rated: u64,
+    least_unit: u64,
+    least: f32,
+    least_rated: u64,
+) -> SurfpocketStudy
+    ensures { λ a. ⌜ a ≡ studyOf (unitOf «greatest_unit» greatest) «greatest_rated» (unitOf «least_unit» least) «least_rated» ⌝ }
+{
+    let InUnit::Known(g) = in_unit(greatest_unit, greatest) else {
+        return no_unit();
+    };
+    let InUnit::Known(l) = in_unit(least_unit, least) else {
+        return no_unit();
+    };
+    converted(Study {
+        greatest: Reading {
+            quantity: g,
+            rated: greatest_rated,
+        },
+        least: Reading {
+            quantity: l,
+            rated: least_rated,
+        },
+    })
+}
+
+// From the text of a list to its printed card or refusal [01 §6].
+#[no_mangle]
+pub extern "C" fn surfpocket_card(text: &[u8], out: &mut [u8]) -> usize
+    ensures { λ r. ⌜ Printed (now (out .entry)) (sheetPrinted (now (text .entry)) (length (now (out .entry)))) (now (out .exit)) r ⌝ }
+{
+    sheet(text, out)
+}

@@ -1,0 +1,9 @@
+-- The header has a column for each number of a row and one for the name. Assumes nothing.
+use mathlib.Core.Path.{_≡_, refl}
+use Prim.Native.Nat.{_+_}
+use lib.ListN.{length}
+use Rattle.text.specs.Header.{columns}
+use Rattle.text.specs.Line.{fieldCount}
+
+pub columns-right : length columns ≡ fieldCount + 1
+columns-right = refl

@@ -1,0 +1,164 @@
+// Reading the text of a list [01 §6].
+mod bytes;
+mod line;
+mod pieces;
+
+ghost use mathlib.Core.Path.{_≡_};
+ghost use mathlib.Core.List.{[], _∷_};
+ghost use Prim.Native.Nat.{_+_, _*_, _<_, _≤_};
+ghost use lib.ListN.{length, drop, take};
+ghost use lib.Seq.{paste};
+ghost use Rattle.text.specs.Header.{header};
+ghost use Rattle.text.specs.Line.{fieldCount};
+ghost use Rattle.text.specs.Text.{same, roomFor, keptIn, lines, LinesTaken, TextTaken};
+
+// A text has at most so many bytes.
+const TEXT_MOST: usize = 65536;
+
+// A row has so many numbers [01 §2].
+pub const FIELDS: usize = 18;
+
+// The bytes that a run is made of.
+pub enum Class {
+    Digit,
+    Bare,
+    InLine,
+}
+
+// A place in the text, and the line that it stands in.
+pub struct Cursor {
+    pub at: usize,
+    pub line: u64,
+}
+
+// A number with the cursor past it.
+pub enum NumberRead {
+    Number(u64, Cursor),
+    NoNumber,
+}
+
+// The cursor past a name.
+pub enum NameRead {
+    Name(Cursor),
+    NoName,
+}
+
+// A line read: its numbers, and where its name starts and how long it is. All 0 where the line is bad.
+pub struct RowRead {
+    pub good: bool,
+    pub name: usize,
+    pub size: usize,
+    pub numbers: [u64; FIELDS],
+}
+
+// What reading a text gives: its first bad line, 0 where it is too long, or the number of its rows.
+pub enum Reading {
+    BadLine(u64),
+    Rows(usize),
+}
+
+// Two slices hold the same bytes.
+fn same_bytes(a: &[u8], b: &[u8]) -> bool
+    ensures { λ r. ⌜ r ≡ same (now (a .entry)) (now (b .entry)) ⌝ }
+{
+    if a.len() != b.len() {
+        return false;
+    }
+    let mut i = 0;
+    while i < a.len() {
+        if a[i] != b[i] {
+            return false;
+        }
+        i += 1;
+    }
+    true
+}
+
+fn is_header(line: &[u8]) -> bool
+    ensures { λ r. ⌜ r ≡ same (now (line .entry)) header ⌝ }
+{
+    same_bytes(
+        line,
+        b"row,name,feeds_from,kind,volts,work,selfstart,return,far,clear,near,factor,low,high,step,device,floor,ceiling,backed",
+    )
+}
+
+// Copies `block` into `out` from `at` on.
+fn put(out: &mut [u64], at: usize, block: &[u64])
+    requires { ⌜ at + length (now block) ≤ length (now out) ⌝ }
+    ensures { λ _. ⌜ now (out .exit) ≡ paste (now (out .entry)) at (now (block .entry)) (length (now (block .entry))) ⌝ }
+{
+    let mut j = 0;
+    while j < block.len() {
+        out[at + j] = block[j];
+        j += 1;
+    }
+}
+
+// For how many rows there is room.
+fn room_for(list: usize, names: usize) -> usize
+    ensures { λ r. ⌜ r ≡ roomFor list names ⌝ }
+{
+    let a = list / FIELDS;
+    let b = names / 2;
+    if a <= b { a } else { b }
+}
+
+// Keeps block n where n is below the room.
+fn keep(out: &mut [u64], room: usize, n: usize, block: &[u64])
+    requires { ⌜ room * length (now block) ≤ length (now out) ⌝ }
+    ensures { λ _. ⌜ now (out .exit) ≡ keptIn room n (now (block .entry)) (now (out .entry)) ⌝ }
+{
+    if n < room {
+        put(out, n * block.len(), block);
+    }
+}
+
+// Keeps row n: its numbers, and where its name stands.
+fn keep_row(list: &mut [u64], names: &mut [u64], room: usize, n: usize, row: RowRead)
+    requires { ⌜ (room * fieldCount ≤ length (now list)) × (room * 2 ≤ length (now names)) ⌝ }
+    ensures { λ _. ⌜ now (list .exit) ≡ keptIn room n (row .numbers) (now (list .entry)) ⌝ }
+    ensures { λ _. ⌜ now (names .exit) ≡ keptIn room n (row .name ∷ row .size ∷ []) (now (names .entry)) ⌝ }
+{
+    let numbers = row.numbers;
+    let place = [row.name as u64, row.size as u64];
+    keep(list, room, n, &numbers);
+    keep(names, room, n, &place);
+}
+
+// The lines from a cursor on.
+fn read_rows(text: &[u8], from: Cursor, list: &mut [u64], names: &mut [u64]) -> Reading
+    requires { ⌜ from .line ≤ 2 ⌝ }
+    ensures { λ r. ⌜ LinesTaken (from .at) (from .line) (lines (drop (from .at) (now (text .entry)))) (now (list .entry)) (now (names .entry)) (now (list .exit)) (now (names .exit)) r ⌝ }
+{
+    let room = room_for(list.len(), names.len());
+    let mut c = from;
+    let mut n = 0;
+    while c.at < text.len() {
+        let past = c.skip(Class::InLine, text);
+        let end = past.at;
+        let row = c.row(&text[..end]);
+        if !row.good {
+            return Reading::BadLine(c.line);
+        }
+        keep_row(list, names, room, n, row);
+        c = past.next_line();
+        n += 1;
+    }
+    Reading::Rows(n)
+}
+
+// The whole text: at most 65,536 bytes, the header, then a row in each line.
+pub fn read_text(text: &[u8], list: &mut [u64], names: &mut [u64]) -> Reading
+    ensures { λ r. ⌜ TextTaken (now (text .entry)) (now (list .entry)) (now (names .entry)) (now (list .exit)) (now (names .exit)) r ⌝ }
+{
+    if TEXT_MOST < text.len() {
+        return Reading::BadLine(0);
+    }
+    let past = (Cursor { at: 0, line: 1 }).skip(Class::InLine, text);
+    let end = past.at;
+    if !is_header(&text[..end]) {
+        return Reading::BadLine(1);
+    }
+    read_rows(text, past.next_line(), list, names)
+}

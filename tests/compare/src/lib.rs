@@ -1,0 +1,9 @@
+//! The proved library behind safe functions, and its comparison with the
+//! second program.
+
+pub mod boundary;
+pub mod competing;
+pub mod lists;
+pub mod run;
+pub mod singles;
+pub mod studies;

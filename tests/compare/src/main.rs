@@ -1,0 +1,71 @@
+//! `compare [--seed N] [--long]`: the proved library against the second
+//! program. `compare singles [--all]`: singles against doubles, a part or all.
+
+use compare::run::{Score, Seen};
+use compare::{competing, lists, singles, studies};
+use std::process::ExitCode;
+use std::slice;
+use std::time::Instant;
+
+/// A step through the patterns that meets every exponent and many fractions.
+const STEP: u64 = 1_021;
+/// How much more a long run compares.
+const LONG: u64 = 10;
+
+const USAGE: &str = "compare [--seed N] [--long] | compare singles [--all]";
+
+fn main() -> ExitCode {
+    let words: Vec<String> = std::env::args().skip(1).collect();
+    let words: Vec<&str> = words.iter().map(String::as_str).collect();
+    let command = match words[..] {
+        ["singles"] => Some(measure_singles(STEP)),
+        ["singles", "--all"] => Some(measure_singles(1)),
+        [] => Some(compare_all(1, 1)),
+        ["--long"] => Some(compare_all(1, LONG)),
+        ["--seed", seed] => seed.parse().ok().map(|seed| compare_all(seed, 1)),
+        ["--seed", seed, "--long"] => seed.parse().ok().map(|seed| compare_all(seed, LONG)),
+        _ => None,
+    };
+    command.unwrap_or_else(|| {
+        eprintln!("{USAGE}");
+        ExitCode::from(2)
+    })
+}
+
+fn compare_all(seed: u64, times: u64) -> ExitCode {
+    println!("seed {seed}");
+    let (mut score, mut whole, mut study) = (Score::default(), Seen::default(), Seen::default());
+    score.run(&lists::KINDS, seed, times, &mut whole);
+    score.run(slice::from_ref(&competing::KIND), seed, times, &mut whole);
+    let share = 100 * whole.accepted / whole.compared.max(1);
+    let line = format!("{} lists, {} accepted, {share} percent", whole.compared, whole.accepted);
+    score.count((30..=70).contains(&share), &line);
+    lists::GROUPS.iter().for_each(|group| score.check(group, &whole));
+    score.check(&competing::PAIRS, &whole);
+    score.run(&studies::KINDS, seed, times, &mut study);
+    studies::GROUPS.iter().for_each(|group| score.check(group, &study));
+    match singles::compare(STEP, false) {
+        Ok(compared) => score.count(true, &format!("singles, a part of all: {compared} compared")),
+        Err(difference) => score.count(false, &format!("singles: {difference}")),
+    }
+    println!("compare: {} passed, {} failed", score.passed, score.failed);
+    ExitCode::from(u8::from(score.failed > 0))
+}
+
+fn measure_singles(step: u64) -> ExitCode {
+    let start = Instant::now();
+    let found = singles::compare(step, true);
+    let seconds = start.elapsed().as_secs_f64();
+    match found {
+        Ok(compared) => {
+            let whole = seconds * step as f64;
+            println!("{compared} readings, {seconds:.1} s; all patterns take about {whole:.0} s");
+            println!("compare: 1 passed, 0 failed");
+            ExitCode::SUCCESS
+        }
+        Err(difference) => {
+            println!("{difference}\ncompare: 0 passed, 1 failed");
+            ExitCode::FAILURE
+        }
+    }
+}
