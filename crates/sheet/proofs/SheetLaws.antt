@@ -22,7 +22,7 @@ use Rattle.text.specs.declared.Reading.the-variants.{BadLine, Rows}
 use Rattle.text.specs.Grammar.{Row, rowsOf}
 use Rattle.text.specs.Line.{fieldCount}
 use Rattle.text.specs.Names.{nameAtPlace, namesAt}
-use Rattle.text.specs.Text.{reading, rowsRead, rowNumbers, rowPlaces, over, blocksOver}
+use Rattle.text.specs.Text.{reading, readingNumber, readingPlace, rowsRead, rowNumbers, rowPlaces, over, blocksOver}
 use Rattle.print.specs.Card.{cardText, refusalText, placeRight, printable, cardPrinted, refusalPrinted, Printed}
 use Rattle.print.proofs.PrintLaws.{nothing-printed}
 use Rattle.whole.specs.Ready.{Gave}
@@ -122,7 +122,7 @@ module _ (s list names : List ℕ) (n room : ℕ) (r : RowsReady s list names n 
 -- a bad line, and a text that was read, in a buffer with room enough
 module _ (s : List ℕ) (room : ℕ) where
   pub bad-printed : (line : ℕ) → sheetMost ≤ room → reading s ≡ BadLine line → refusalPrinted 1 line 0 room ≡ sheetPrinted s room
-  unfolding refusalPrinted sheetPrinted sheetText readText
+  unfolding refusalPrinted sheetPrinted sheetText readText readingNumber readingPlace
   bad-printed line h e = rw (le-leb 85 room (omega arith), le-leb sheetMost room h, e)
 
   pub read-printed : (n : ℕ) → sheetMost ≤ room → reading s ≡ Rows n → readText s (Rows n) ≡ sheetPrinted s room

@@ -10,7 +10,7 @@ use Rattle.rows.specs.Answer.{givenBy}
 use Rattle.text.specs.declared.Reading.{Reading}
 use Rattle.text.specs.declared.Reading.the-variants.{BadLine, Rows}
 use Rattle.text.specs.Grammar.{Row, rowsOf}
-use Rattle.text.specs.Text.{reading, rowNumbers}
+use Rattle.text.specs.Text.{reading, readingNumber, readingPlace, rowNumbers}
 use Rattle.print.specs.Card.{cardText, refusalText}
 use Rattle.whole.specs.Whole.{Result, whole}
 
@@ -28,7 +28,7 @@ givenText s g card = cond (eqb (g .number) 0) (cardText (namesOf s) card) (refus
 
 -- what is printed for the reading of a text
 unfoldable pub readText : List ℕ → Reading → List ℕ
-readText s (BadLine line) = refusalText 1 line 0
+readText s (BadLine line) = refusalText (readingNumber (BadLine line)) (readingPlace (BadLine line)) 0
 readText s (Rows n) = givenText s (givenBy (whole (rowNumbers s) blankCard .answer)) (whole (rowNumbers s) blankCard .card)
 
 -- what is printed for a text

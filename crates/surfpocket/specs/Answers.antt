@@ -4,6 +4,7 @@ use mathlib.Core.List.{List}
 use Prim.Native.Nat.{ℕ}
 use Rattle.rows.specs.declared.Given.{Given}
 use Rattle.rows.specs.Answer.{givenBy}
+use Rattle.change.specs.Replace.{Replaced}
 use Rattle.whole.specs.Whole.{Result}
 use Rattle.surfpocket.specs.declared.SurfpocketAnswer.{SurfpocketAnswer}
 
@@ -12,4 +13,10 @@ answerOf g = record { number = g .number; place = g .place; field = g .field }
 
 pub record Gave (z : Result) (a : SurfpocketAnswer) (c : List ℕ) : Type 0 where
   pub numbers : a ≡ answerOf (givenBy (z .answer))
+  pub card : c ≡ z .card
+
+-- of a replacement, the list besides
+pub record GaveBoth (z : Replaced) (a : SurfpocketAnswer) (l c : List ℕ) : Type 0 where
+  pub numbers : a ≡ answerOf (givenBy (z .answer))
+  pub list : l ≡ z .list
   pub card : c ≡ z .card

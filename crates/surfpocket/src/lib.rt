@@ -1,4 +1,6 @@
 // The C boundary: the functions of include/surfpocket.h. Each calls one proved entry and hands its numbers on.
+use change::replace;
+use rows::Given;
 use sheet::sheet;
 use study::Quantity;
 use study::Reading;
@@ -8,9 +10,10 @@ use whole::whole;
 ghost use mathlib.Core.Path.{_≡_};
 ghost use lib.ListN.{length};
 ghost use Rattle.print.specs.Card.{Printed};
+ghost use Rattle.change.specs.Replace.{replaced};
 ghost use Rattle.sheet.specs.Sheet.{sheetPrinted};
 ghost use Rattle.whole.specs.Whole.{whole};
-ghost use Rattle.surfpocket.specs.Answers.{Gave};
+ghost use Rattle.surfpocket.specs.Answers.{answerOf, Gave, GaveBoth};
 ghost use Rattle.surfpocket.specs.Studies.{unitOf, studyOf, studied, refused};
 
 #[repr(C)]
@@ -28,17 +31,36 @@ pub struct SurfpocketStudy {
     pub least: u64,
 }
 
-// The whole calculation [01 §4].
-#[no_mangle]
-pub extern "C" fn surfpocket_whole(list: &[u64], card: &mut [u64]) -> SurfpocketAnswer
-    ensures { λ a. ⌜ Gave (whole (now (list .entry)) (now (card .entry))) a (now (card .exit)) ⌝ }
+// An answer's three numbers.
+fn answered(g: Given) -> SurfpocketAnswer
+    ensures { λ a. ⌜ a ≡ answerOf g ⌝ }
 {
-    let g = whole(list, card);
     SurfpocketAnswer {
         number: g.number,
         place: g.place,
         field: g.field,
     }
+}
+
+// The whole calculation [01 §4].
+#[no_mangle]
+pub extern "C" fn surfpocket_whole(list: &[u64], card: &mut [u64]) -> SurfpocketAnswer
+    ensures { λ a. ⌜ Gave (whole (now (list .entry)) (now (card .entry))) a (now (card .exit)) ⌝ }
+{
+    answered(whole(list, card))
+}
+
+// The replacement of one row [01 §4].
+#[no_mangle]
+pub extern "C" fn surfpocket_replace(
+    list: &mut [u64],
+    card: &mut [u64],
+    place: u64,
+    row: &[u64],
+) -> SurfpocketAnswer
+    ensures { λ a. ⌜ GaveBoth (replaced (now (list .entry)) (now (card .entry)) place (now (row .entry))) a (now (list .exit)) (now (card .exit)) ⌝ }
+{
+    answered(replace(list, card, place, row))
 }
 
 // A single in the unit of that number, if there is one.

@@ -17,7 +17,6 @@ pub mod LineLaws
 pub mod NameLaws
 pub mod NumberLaws
 pub mod QuoteLaws
-pub mod ReadLaws
 pub mod RowAtLaws
 pub mod RowLaws
 pub mod RunLaws

@@ -1,0 +1,106 @@
+-- An accepted list and its card: the tests pass, the calculation finishes with the card, and each row of the card stands at
+-- its own least settings, which pass CARD. Assumes nothing.
+use mathlib.Core.Path.{_≡_, refl, sym, ap, _∙_}
+use mathlib.Core.Bool.{Bool, true, false, cond}
+use mathlib.Core.List.{List}
+use Prim.Native.Nat.{ℕ, _*_, _≤_, _<_}
+use native.Mathlib.Nat.{le-trans}
+use native.Mathlib.Omega.{arith}
+use lib.ListN.{length}
+use Rattle.grid.specs.declared.Found.{Found}
+use Rattle.grid.specs.declared.Found.the-variants.{At, Nothing}
+use Rattle.grid.proofs.GridLaws.{leastOn-least}
+use Rattle.rows.specs.declared.Answer.{Answer}
+use Rattle.rows.specs.declared.Answer.the-variants.{Done}
+use Rattle.rows.specs.declared.Row.{Row}
+use Rattle.rows.specs.declared.Tested.{Tested}
+use Rattle.rows.specs.declared.Tested.the-variants.{Passed, Refused}
+use Rattle.rows.specs.Row.{rows, rowAt}
+use Rattle.rows.specs.InRange.{InRange, Bounded}
+use Rattle.rows.specs.Tests.{sizeTest, rowsTest}
+use Rattle.rows.proofs.InRangeLaws.{passed-in-range, passed-feeds, row-bounded, field-from}
+use Rattle.rows.proofs.TestLaws.{size-passed}
+use Rattle.settle.specs.declared.Cutoff.the-variants.{Fitted, NotFitted}
+use Rattle.settle.specs.Conditions.{seesNear, staysClear}
+use Rattle.settle.specs.Settle.{leastPickup, fitting, cutoffOf, printed, settled}
+use Rattle.settle.proofs.OutcomeLaws.{outcome-set}
+use Rattle.work.specs.WorkOut.{Worked, finished, refused}
+use Rattle.whole.specs.Whole.{Result, ending, after, calculation, whole}
+use Rattle.whole.proofs.FrameLaws.{calculation-keeps}
+use Rattle.whole.proofs.MeetsLaws.{pickup-least, delay-least}
+use Rattle.whole.proofs.SettledLaws.{RowSettled, calculation-settled}
+use Rattle.change.specs.Replace.{onPassed}
+use Rattle.change.proofs.RefusalLaws.{Later, refuses-done, size-refuses, rows-later, work-later, passed-refused, passed-finished}
+use Rattle.change.proofs.TestLaws.{CardFits}
+
+-- the whole calculation, its size being right
+pub whole-as : (l c : List ℕ) → sizeTest (length l) (length c) ≡ Passed → whole l c ≡ ending c (onPassed (rowsTest l) (calculation l c))
+unfolding whole after ending onPassed
+whole-as l c e = rw e (by-cases (rowsTest l))
+  where
+    by-cases : (t : Tested) → after t c (ending c (calculation l c)) ≡ ending c (onPassed t (calculation l c))
+    by-cases Passed = refl
+    by-cases (Refused a) = refl
+
+pub record Accepts (l c₀ c : List ℕ) : Type 0 where
+  pub size : sizeTest (length l) (length c₀) ≡ Passed
+  pub tested : rowsTest l ≡ Passed
+  pub calculated : calculation l c₀ ≡ finished c
+
+pub calculation-later : (l c : List ℕ) (a : Answer) → onPassed (rowsTest l) (calculation l c) ≡ refused a → Later a
+unfolding calculation
+calculation-later l c = passed-refused _ _ Later (rows-later l) (work-later l _ c)
+
+pub accepts : (l c₀ c : List ℕ) → whole l c₀ ≡ record { answer = Done; card = c } → Accepts l c₀ c
+unfolding whole after ending
+accepts l c₀ c e = by-size (sizeTest (length l) (length c₀)) refl
+  where
+    by-work : (w : Worked) → sizeTest (length l) (length c₀) ≡ Passed → onPassed (rowsTest l) (calculation l c₀) ≡ w → ending c₀ w ≡ record { answer = Done; card = c } → Accepts l c₀ c
+    by-work (finished d) s q g =
+        let p = passed-finished (rowsTest l) (calculation l c₀) d q in
+        record { size = s; tested = p .0; calculated = p .1 ∙ ap (λ (r : Result). finished (r .card)) g }
+    by-work (refused a) s q g = absurd (refuses-done (calculation-later l c₀ a q .refuses) (ap (λ (r : Result). r .answer) g))
+
+    by-size : (t : Tested) → sizeTest (length l) (length c₀) ≡ t → Accepts l c₀ c
+    by-size Passed s = by-work _ s refl (sym (whole-as l c₀ s) ∙ e)
+    by-size (Refused a) s =
+        let g : whole l c₀ ≡ record { answer = a; card = c₀ } = rw s in
+        absurd (refuses-done (size-refuses (length l) (length c₀) a s) (ap (λ (r : Result). r .answer) (sym g ∙ e)))
+
+-- a card row at its own least settings passes CARD
+module _ (l : List ℕ) (a : InRange l) (c : List ℕ) (j : ℕ) (h : j < rows l) (s : RowSettled l c j) where
+  cutoff-bounded : (r : Row) → Bounded r → printed (cutoffOf r) ≤ 100000000
+  unfolding cutoffOf fitting printed
+  cutoff-bounded r b = by-cases (leastPickup r (staysClear r)) refl
+    where
+      by-sight : (v : Bool) (C : ℕ) → C ≤ 100000000 → printed (cond v (Fitted C) NotFitted) ≤ 100000000
+      by-sight true C q = q
+      by-sight false C q = omega arith
+
+      by-cases : (f : Found) → leastPickup r (staysClear r) ≡ f → printed (fitting r f) ≤ 100000000
+      by-cases (At C) e = by-sight (seesNear r C) C (le-trans (leastOn-least _ _ _ (b .step-from) (staysClear r) C e .available .within) (b .high-to))
+      by-cases Nothing e = omega arith
+
+  pub settled-fits : CardFits c j
+  unfolding settled
+  settled-fits =
+      let b = row-bounded l a j h in
+      let p = pickup-least l a c j h s .available in
+      let d = delay-least l a c j h s .available in
+      let low : 1 ≤ rowAt l j .low = field-from l a j h 11 (omega arith) in
+      record {
+        pickup-from = omega (arith, p .on-grid);
+        pickup-to = le-trans (p .within) (b .high-to);
+        delay-to = le-trans (d .within) (b .ceiling-to);
+        cutoff-to = rw (s .cutoff, outcome-set (rowAt l j) _ _ (s .outcome) (s .settles) .cutoff-is) (cutoff-bounded (rowAt l j) b);
+      }
+
+module _ (l c₀ c : List ℕ) (x : Accepts l c₀ c) where
+  pub accepted-room : rows l * 3 ≤ length c₀
+  accepted-room = omega (arith, size-passed (length l) (length c₀) (x .size) .card-room)
+
+  pub accepted-length : length c ≡ length c₀
+  accepted-length = calculation-keeps l c₀ c (x .calculated) .same-length
+
+  pub rows-settled : (j : ℕ) → j < rows l → RowSettled l c j
+  rows-settled = calculation-settled l (passed-in-range l (x .tested)) (passed-feeds l (x .tested)) c₀ c accepted-room (x .calculated)

@@ -1,0 +1,85 @@
+-- After an edit of an accepted list, a row off the path has the same fields, fed rows and card numbers as before, so it stands
+-- at its own least settings; the path worked out on the card is then the whole calculation of the new list. Assumes nothing.
+use mathlib.Core.Path.{_≡_, refl, sym, ap, _∙_, subst}
+use mathlib.Core.Bool.{false}
+use mathlib.Core.List.{List}
+use Prim.Native.Nat.{ℕ, _+_, _-_, _*_, _≤_, _<_}
+use lib.Dec.{eqb}
+use lib.ListN.{length, drop}
+use Rattle.grid.proofs.BoolLaws.{not-both}
+use Rattle.rows.specs.declared.Tested.{Tested}
+use Rattle.rows.specs.declared.Tested.the-variants.{Passed, Refused}
+use Rattle.rows.specs.Row.{rows}
+use Rattle.rows.specs.InRange.{InRange, Feeds}
+use Rattle.rows.specs.Tests.{rowsTest}
+use Rattle.rows.proofs.InRangeLaws.{passed-in-range, passed-feeds}
+use Rattle.work.specs.Card.{pickupIn, delayIn}
+use Rattle.whole.specs.Whole.{calculation}
+use Rattle.whole.proofs.FrameLaws.{settled-same, calculation-keeps}
+use Rattle.change.specs.Path.{onPath}
+use Rattle.change.specs.Replace.{putList, cardTest, onPassed, reworked}
+use Rattle.change.proofs.AcceptLaws.{Accepts, settled-fits, accepted-room, accepted-length, rows-settled}
+use Rattle.change.proofs.EditedLaws.{edited-rows, edited-is-row, edited-row, edited-feeder}
+use Rattle.change.proofs.PathLaws.{on-self}
+use Rattle.change.proofs.SkipLaws.{Rests, fed-off, calculation-path, calculation-same}
+use Rattle.change.proofs.TestLaws.{EditFits, fits-pass}
+
+module _ (l c₀ c : List ℕ) (x : Accepts l c₀ c) (place : ℕ) (row : List ℕ) (f : EditFits l place row) where
+  abbrev l′ : List ℕ
+  l′ = putList l (place - 1) row
+
+  same-rows : (P : ℕ → Type 0) → P (rows l) → P (rows l′)
+  same-rows P h = subst P (edited-rows l place row f) h
+
+  -- 4 and 5 pass for the new list too
+  module _ (e : rowsTest l′ ≡ Passed) where
+    in-range : InRange l′
+    in-range = passed-in-range l′ e
+
+    feeds : Feeds l′
+    feeds = passed-feeds l′ e
+
+    is-row : place - 1 < rows l′
+    is-row = same-rows (λ n. place - 1 < n) (edited-is-row l place row f)
+
+    below : (j : ℕ) → j < rows l′ → j < rows l
+    below j h = rw (edited-rows l place row f) h
+
+    card-passes : cardTest l′ c ≡ Passed
+    card-passes = fits-pass l′ c (λ j h. settled-fits l (passed-in-range l (x .tested)) c j (below j h) (rows-settled l c₀ c x j (below j h)))
+
+    -- a row off the path is not the new one
+    not-new : (j : ℕ) → onPath l′ (place - 1) j ≡ false → j ≡ place - 1 → ⊥
+    not-new j off q = not-both (on-self l′ feeds (place - 1) is-row) (rw q at off)
+
+    rests : Rests l′ in-range feeds (place - 1) is-row c
+    unfolding Rests
+    rests j h off =
+        let s = rows-settled l c₀ c x j (below j h) in
+        record {
+          outcome = s .outcome;
+          settles =
+              settled-same l′ l (pickupIn c) (pickupIn c) (delayIn c) (delayIn c) j (sym (edited-rows l place row f)) (sym (edited-row l place row f j (not-new j off)))
+              (λ k _. ap (λ (f : ℕ). eqb f (j + 1)) (sym (edited-feeder l place row f k)))
+              (λ k _ g. sym (edited-row l place row f k (not-new k (fed-off l′ in-range feeds (place - 1) is-row j k off g))))
+              (λ k _ _. refl) (λ k _ _. refl) in-range (passed-in-range l (x .tested)) h ∙
+              s .settles;
+          pickup = s .pickup;
+          delay = s .delay;
+          cutoff = s .cutoff;
+        }
+
+    same-calculation : calculation l′ c ≡ calculation l′ c₀
+    same-calculation =
+        let room = same-rows (λ n. n * 3 ≤ length c₀) (accepted-room l c₀ c x) in
+        calculation-same l′ in-range feeds c c₀ (rw (accepted-length l c₀ c x) room) room
+        (same-rows (λ n. drop (n * 3) c ≡ drop (n * 3) c₀) (calculation-keeps l c₀ c (x .calculated) .past-rows))
+
+  pub reworked-whole : reworked (putList l (place - 1) row) (place - 1) c ≡ onPassed (rowsTest (putList l (place - 1) row)) (calculation (putList l (place - 1) row) c₀)
+  unfolding reworked onPassed
+  reworked-whole = by-cases (rowsTest l′) refl
+    where
+      by-cases : (t : Tested) → rowsTest l′ ≡ t → reworked l′ (place - 1) c ≡ onPassed (rowsTest l′) (calculation l′ c₀)
+      by-cases Passed e =
+          rw (e, card-passes e) (sym (calculation-path l′ (in-range e) (feeds e) (place - 1) (is-row e) c (rests e)) ∙ same-calculation e)
+      by-cases (Refused a) e = rw e

@@ -1,0 +1,68 @@
+-- [01 §4] The replacement of one row of a list lent as numbers, on a card lent as numbers: the answer, and the list and
+-- the card afterwards. The order is 2, 3, 10, then 4 and 5 over the list as it would be, then 9 over all rows, then 6 and 7
+-- along the path, the card rows off the path read as they are found. A refusal leaves list and card. Definitions only.
+use mathlib.Core.Bool.{Bool, not, cond, _&&_}
+use mathlib.Core.List.{List, _++_}
+use Prim.Native.Nat.{ℕ, _+_, _-_, _*_}
+use lib.Dec.{leb, eqb}
+use lib.ListN.{length, getD, take, drop}
+use Rattle.grid.specs.declared.Found.{Found}
+use Rattle.grid.specs.declared.Found.the-variants.{At, Nothing}
+use Rattle.grid.specs.First.{first}
+use Rattle.rows.specs.declared.Answer.{Answer}
+use Rattle.rows.specs.declared.Answer.the-variants.{Done, Card, Edit}
+use Rattle.rows.specs.declared.Tested.{Tested}
+use Rattle.rows.specs.declared.Tested.the-variants.{Passed, Refused}
+use Rattle.rows.specs.Row.{rows, field}
+use Rattle.rows.specs.Tests.{sizeTest, rowsTest}
+use Rattle.work.specs.Card.{pickupIn, delayIn, cutoffIn}
+use Rattle.work.specs.WorkOut.{Worked, finished, refused, workOut}
+use Rattle.change.specs.Path.{pathOf}
+
+-- the list with a new row in the place of row i, counted from 0
+unfoldable pub putList : List ℕ → ℕ → List ℕ → List ℕ
+putList l i row = take (i * 18) l ++ row ++ drop (i * 18 + 18) l
+
+-- 10 EDIT: the place is that of a row, the new row is 18 numbers, its field 1 is the place, its field 2 is the list's there
+unfoldable pub editRight : List ℕ → ℕ → List ℕ → Bool
+editRight l place row =
+    (leb 1 place && leb place (rows l)) && (eqb (length row) 18 && (eqb (getD row 0 0) place && eqb (getD row 1 0) (field l (place - 1) 1)))
+
+unfoldable pub editTest : List ℕ → ℕ → List ℕ → Tested
+editTest l place row = cond (editRight l place row) Passed (Refused Edit)
+
+-- 9 CARD over all rows ascending
+unfoldable pub cardRight : List ℕ → ℕ → Bool
+cardRight c j =
+    (leb 1 (pickupIn c j) && leb (pickupIn c j) 100000000) && (leb (delayIn c j) 100000 && leb (cutoffIn c j) 100000000)
+
+unfoldable pub cardAnswer : Found → Tested
+cardAnswer (At j) = Refused (Card (j + 1))
+cardAnswer Nothing = Passed
+
+unfoldable pub cardTest : List ℕ → List ℕ → Tested
+cardTest l c = cardAnswer (first (λ j. not (cardRight c j)) 0 (rows l))
+
+-- a test passed goes on with what is next
+unfoldable pub onPassed : Tested → Worked → Worked
+onPassed Passed next = next
+onPassed (Refused a) next = refused a
+
+-- row i of the list l is new: 4, 5, 9, then 6 and 7 along its path
+unfoldable pub reworked : List ℕ → ℕ → List ℕ → Worked
+reworked l i c = onPassed (rowsTest l) (onPassed (cardTest l c) (workOut l (pathOf l i) c))
+
+pub record Replaced : Type 0 where
+  pub answer : Answer
+  pub list : List ℕ
+  pub card : List ℕ
+
+-- how it ends: with the new list and card, or with a refusal and the old ones
+unfoldable pub outcome : List ℕ → List ℕ → List ℕ → Worked → Replaced
+outcome l c l′ (finished c′) = record { answer = Done; list = l′; card = c′ }
+outcome l c l′ (refused a) = record { answer = a; list = l; card = c }
+
+unfoldable pub replaced : List ℕ → List ℕ → ℕ → List ℕ → Replaced
+replaced l c place row =
+    let l′ = putList l (place - 1) row in
+    outcome l c l′ (onPassed (sizeTest (length l) (length c)) (onPassed (editTest l place row) (reworked l′ (place - 1) c)))

@@ -1,0 +1,86 @@
+//! Replacements, one by one and in series beside the ledger [01 §4].
+
+use crate::boundary;
+use crate::lists::name_of;
+use crate::run::{Found, Group, Kind, Seen};
+use second::answer::*;
+use second::generate::*;
+use second::replace::{replace, Ledger};
+use second::row::{CARD_NUMBERS, FIELDS};
+use second::whole::whole;
+
+const NUMBERS: Group = Group {
+    name: "numbers given back by replacements",
+    wanted: || {
+        [DONE, COUNT, ROOM, FIELD, TREE, PICKUP, DELAY, CARD, EDIT].map(|number| (number, 0)).to_vec()
+    },
+    label: |item| name_of(item.0).to_string(),
+};
+
+/// 0 for a replacement of a series that was done, 1 for one that was refused.
+const IN_SERIES: Group = Group {
+    name: "replacements in series",
+    wanted: || vec![(0, 0), (1, 0)],
+    label: |item| if item.0 == 0 { "done" } else { "refused" }.to_string(),
+};
+
+pub const GROUPS: [Group; 2] = [NUMBERS, IN_SERIES];
+
+pub const KINDS: [Kind; 2] = [
+    Kind { name: "replacements on any list and card", cases: 40_000, case: one },
+    Kind { name: "series beside the ledger", cases: 20_000, case: course },
+];
+
+/// Any list with any card, the card's own numbers read off the path.
+fn one(_: u64, seed: u64, seen: &mut Seen) -> Found {
+    let lent = replacement(seed);
+    let (mut list, mut card) = (lent.list.clone(), lent.card.clone());
+    let (mut list2, mut card2) = (lent.list.clone(), lent.card.clone());
+    let answer = boundary::replace(&mut list, &mut card, lent.change.place, &lent.change.row);
+    let expected = replace(&mut list2, &mut card2, lent.change.place, &lent.change.row);
+    if answer != expected || list != list2 || card != card2 {
+        return Err(format!("{answer:?}, not {expected:?}, or the buffers differ: seed {seed}"));
+    }
+    note(answer, seen);
+    Ok(())
+}
+
+fn note(answer: Answer, seen: &mut Seen) {
+    seen.compared += 1;
+    seen.note(&NUMBERS, (answer.number, 0));
+}
+
+/// An accepted list, and its card as the whole calculation left it.
+fn accepted(seed: u64) -> (Vec<u64>, Vec<u64>, Vec<u64>) {
+    let mut rng = Rng::new(seed);
+    loop {
+        let made = list(rng.any());
+        let start = lent_card(CARD_NUMBERS * made.len() / FIELDS + rng.below(4) as usize, rng.any());
+        let mut card = start.clone();
+        if whole(&made, &mut card) == Answer::DONE {
+            return (made, start, card);
+        }
+    }
+}
+
+/// Every answer is the ledger's; after the series so is the list, and the card
+/// is what the whole calculation of that list leaves in the card of the start.
+fn course(_: u64, seed: u64, seen: &mut Seen) -> Found {
+    let (mut list, start, mut card) = accepted(seed);
+    let mut ledger = Ledger::new(&list);
+    for (step, change) in series(&list.clone(), 3 + (seed % 10) as usize, seed).iter().enumerate() {
+        let answer = boundary::replace(&mut list, &mut card, change.place, &change.row);
+        let expected = ledger.feed(change.place, &change.row);
+        if answer != expected {
+            return Err(format!("{answer:?}, not {expected:?}, at step {step} of series {seed}"));
+        }
+        note(answer, seen);
+        seen.note(&IN_SERIES, (u64::from(answer != Answer::DONE), 0));
+    }
+    let mut afresh = start;
+    let whole_again = whole(ledger.list(), &mut afresh);
+    if whole_again != Answer::DONE || list != ledger.list() || card != afresh {
+        return Err(format!("list or card differ after series {seed}"));
+    }
+    Ok(())
+}
