@@ -1,5 +1,7 @@
-//! The proved whole calculation beside the linear one in Rust: the same
-//! accepted lists and buffers, rounds of each in turn, the median round.
+//! The proved library beside the linear program in Rust: the same accepted
+//! lists and buffers, rounds of each in turn, the median round.
+
+mod changes;
 
 use compare::boundary;
 use second::answer::Answer;
@@ -31,6 +33,11 @@ struct Size {
 }
 
 fn main() {
+    whole_calculations();
+    changes::replacements();
+}
+
+fn whole_calculations() {
     println!("shape rows   Rattle ns     Rust ns  Rattle/Rust");
     for shape in SHAPES {
         let medians = measure(shape);
@@ -81,7 +88,7 @@ fn round(whole: Whole, lists: &[Vec<u64>], card: &mut [u64]) -> f64 {
     start.elapsed().as_nanos() as f64 / (TURNS * lists.len()) as f64
 }
 
-fn median(mut times: Vec<f64>) -> f64 {
+pub fn median(mut times: Vec<f64>) -> f64 {
     times.sort_by(f64::total_cmp);
     times[times.len() / 2]
 }

@@ -1,64 +1,49 @@
-use native.Mathlib.Omega.{arith}
+-- `rows::field_right` meets its contract: each return is a way in which a field is judged.
+-- Assumes nothing.
 use borrow.Author.Needs.{needs}
 use Rattle.rows.proofs.FieldLaws.{right-below, right-above, right-own, right-other}
 use Rattle.rows.proofs.field_right.Statement.{statement}
 use Rattle.rows.proofs.field_right.Tie as tie
-use Rattle.rows.proofs.field_right.Reads as reads
-use Rattle.rows.proofs.field_right.Lts as lts
-use Rattle.rows.proofs.field_at.Reads as field-at-reads
 
--- src/lib.rt:191:9
 field-at-requires : tie.Need-field-at-requires
 field-at-requires c κs = search needs
 
--- src/lib.rt:192:23
 mul-least : tie.Need-mul-least
 mul-least c = search needs
 
--- src/lib.rt:192:17
 mul-least-2 : tie.Need-mul-least-2
 mul-least-2 c = search needs
 
--- src/lib.rt:192:17
 element-copy-out-least : tie.Need-element-copy-out-least
 element-copy-out-least c = search needs
 
--- src/lib.rt:193:26
 mul-greatest : tie.Need-mul-greatest
 mul-greatest c = search needs
 
--- src/lib.rt:193:26
 add-greatest : tie.Need-add-greatest
 add-greatest c = search needs
 
--- src/lib.rt:193:20
 mul-greatest-2 : tie.Need-mul-greatest-2
 mul-greatest-2 c = search needs
 
--- src/lib.rt:193:20
 element-copy-out-greatest : tie.Need-element-copy-out-greatest
 element-copy-out-greatest c = search needs
 
--- src/lib.rt:195:9
 returns : tie.Need-returns
 returns c =
     right-below _ _ _ _ (c .before .before .before .field-at .ensures) _ (c .before .before .before .before .before .pre .2) (c .if1 .taken)
 
--- src/lib.rt:198:9
 returns-2 : tie.Need-returns-2
 returns-2 c =
     right-above _ _ _ _ (c .before .before .before .before .field-at .ensures) _ (c .before .before .before .before .before .before .pre .2) (c .before .if1 .left) (c .if2 .taken)
 
--- src/lib.rt:201:21
 add-result : tie.Need-add-result
 add-result c = search needs
 
--- src/lib.rt:201:9
 returns-3 : tie.Need-returns-3
 returns-3 c =
     right-own _ _ _ _ (c .before .before .before .before .before .field-at .ensures) _ (c .before .before .before .before .before .before .before .pre .2) (c .before .before .if1 .left) (c .before .if2 .left) (c .if3 .taken)
 
--- src/lib.rt:187:1
 returns-4 : tie.Need-returns-4
 returns-4 c =
     right-other _ _ _ _ (c .before .before .before .before .before .field-at .ensures) _ (c .before .before .before .before .before .before .before .pre .2) (c .before .before .if1 .left) (c .before .if2 .left) (c .if3 .left)

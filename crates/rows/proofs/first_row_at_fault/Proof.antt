@@ -1,15 +1,13 @@
+-- `rows::first_row_at_fault` meets its contract: the loop has passed rows without fault, so the first at fault is the first of all.
+-- Assumes nothing.
 use native.Mathlib.Omega.{arith}
-use borrow.Author.Needs.{needs}
-use mathlib.Core.Path.{_≡_, refl, sym}
+use mathlib.Core.Path.{refl, sym}
 use Prim.Native.Nat.{_-_}
 use Rattle.grid.proofs.FirstLaws.{Passed, passed-none, passed-more, passed-found, passed-all}
 use Rattle.rows.specs.Tests.{rowAtFault}
 use Rattle.rows.proofs.TestLaws.{row-wrong, row-right}
 use Rattle.rows.proofs.first_row_at_fault.Statement.{statement}
 use Rattle.rows.proofs.first_row_at_fault.Tie as tie
-use Rattle.rows.proofs.first_row_at_fault.Reads as reads
-use Rattle.rows.proofs.first_row_at_fault.Lts as lts
-use Rattle.rows.proofs.row_fault.Reads as row-fault-reads
 
 abbrev Inv-loop : tie.InvT-loop
 Inv-loop list n table i₀ i = Passed (rowAtFault list) n i
@@ -17,33 +15,26 @@ Inv-loop list n table i₀ i = Passed (rowAtFault list) n i
 abbrev μ-loop : tie.MeasureT-loop
 μ-loop list n table i₀ i = n - i
 
--- src/lib.rt:151:5
 loop-holds : tie.Need-loop-holds Inv-loop μ-loop
 loop-holds c = passed-none _ _
 
--- src/lib.rt:152:13
 row-fault-requires : tie.Need-row-fault-requires Inv-loop μ-loop
 row-fault-requires c κs = (omega arith, refl)
 
--- src/lib.rt:154:13
 returns : tie.Need-returns Inv-loop μ-loop
 returns c =
     sym (passed-found _ (c .before .before .before .before .loop .inv) (c .before .before .before .loop-test .taken) (row-wrong _ _ _ (c .before .row-fault .ensures) (c .if1 .taken)))
 
--- src/lib.rt:156:9
 add-i : tie.Need-add-i Inv-loop μ-loop
 add-i c = omega arith
 
--- src/lib.rt:151:5
 loop-less : tie.Need-loop-less Inv-loop μ-loop
 loop-less c = omega arith
 
--- src/lib.rt:151:5
 loop-again : tie.Need-loop-again Inv-loop μ-loop
 loop-again c =
     passed-more _ (c .before .before .before .before .loop .inv) (c .before .before .before .loop-test .taken) (row-right _ _ _ (c .before .row-fault .ensures) (omega arith))
 
--- src/lib.rt:146:1
 returns-2 : tie.Need-returns-2 Inv-loop μ-loop
 returns-2 c = sym (passed-all _ (c .before .loop .inv) (c .loop-test .left))
 

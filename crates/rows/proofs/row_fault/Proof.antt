@@ -1,5 +1,6 @@
+-- `rows::row_fault` meets its contract: the loop has passed fields that are right, so the first that is not is the first of all; then low is held against high.
+-- Assumes nothing.
 use native.Mathlib.Omega.{arith}
-use borrow.Author.Needs.{needs}
 use mathlib.Core.Bool.{not}
 use mathlib.Core.Path.{sym, ap, _∙_}
 use Prim.Native.Nat.{_-_}
@@ -7,10 +8,6 @@ use Rattle.grid.proofs.FirstLaws.{Passed, passed-none, passed-more, passed-foun
 use Rattle.rows.proofs.TestLaws.{fieldWrong, fault-found, fault-none, fault-order}
 use Rattle.rows.proofs.row_fault.Statement.{statement}
 use Rattle.rows.proofs.row_fault.Tie as tie
-use Rattle.rows.proofs.row_fault.Reads as reads
-use Rattle.rows.proofs.row_fault.Lts as lts
-use Rattle.rows.proofs.field_at.Reads as field-at-reads
-use Rattle.rows.proofs.field_right.Reads as field-right-reads
 
 abbrev Inv-loop : tie.InvT-loop
 Inv-loop list table i k₀ k = Passed (fieldWrong list i) 18 k
@@ -18,47 +15,36 @@ Inv-loop list table i k₀ k = Passed (fieldWrong list i) 18 k
 abbrev μ-loop : tie.MeasureT-loop
 μ-loop list table i k₀ k = 18 - k
 
--- src/lib.rt:134:5
 loop-holds : tie.Need-loop-holds Inv-loop μ-loop
 loop-holds c = passed-none _ 18
 
--- src/lib.rt:135:13
 field-right-requires : tie.Need-field-right-requires Inv-loop μ-loop
 field-right-requires c κs = (omega arith, omega arith, c .before .before .before .pre .1)
 
--- src/lib.rt:136:20
 add-result : tie.Need-add-result Inv-loop μ-loop
 add-result c = omega arith
 
--- src/lib.rt:136:13
 returns : tie.Need-returns Inv-loop μ-loop
 returns c = fault-found _ _ _ (passed-found _ (c .before .before .before .loop .inv) (c .before .before .loop-test .taken) (sym (ap not (c .before .field-right .ensures)) ∙ c .if1 .taken))
 
--- src/lib.rt:138:9
 add-k : tie.Need-add-k Inv-loop μ-loop
 add-k c = omega arith
 
--- src/lib.rt:134:5
 loop-less : tie.Need-loop-less Inv-loop μ-loop
 loop-less c = omega arith
 
--- src/lib.rt:134:5
 loop-again : tie.Need-loop-again Inv-loop μ-loop
 loop-again c = passed-more _ (c .before .before .before .loop .inv) (c .before .before .loop-test .taken) (sym (ap not (c .before .field-right .ensures)) ∙ c .if1 .left)
 
--- src/lib.rt:140:9
 field-at-requires : tie.Need-field-at-requires Inv-loop μ-loop
 field-at-requires c κs = omega arith
 
--- src/lib.rt:141:9
 field-at-requires-2 : tie.Need-field-at-requires-2 Inv-loop μ-loop
 field-at-requires-2 c κs = omega arith
 
--- src/lib.rt:129:1
 returns-2 : tie.Need-returns-2 Inv-loop μ-loop
 returns-2 c = fault-none _ _ (passed-all _ (c .before .before .before .before .loop .inv) (c .before .before .before .loop-test .left)) (omega (arith, c .before .before .field-at .ensures, c .before .field-at2 .ensures))
 
--- src/lib.rt:129:1
 returns-3 : tie.Need-returns-3 Inv-loop μ-loop
 returns-3 c = fault-order _ _ (passed-all _ (c .before .before .before .before .loop .inv) (c .before .before .before .loop-test .left)) (omega (arith, c .before .before .field-at .ensures, c .before .field-at2 .ensures))
 

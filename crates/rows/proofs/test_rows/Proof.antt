@@ -1,3 +1,5 @@
+-- `rows::test_rows` meets its contract: the first row at fault decides, and where there is none the feeding's test.
+-- Assumes nothing.
 use native.Mathlib.Omega.{arith}
 use borrow.Author.Needs.{needs}
 use mathlib.Core.Path.{refl, sym, _∙_}
@@ -5,42 +7,29 @@ use Rattle.grid.proofs.FirstLaws.{first-below}
 use Rattle.rows.proofs.TestLaws.{fields-found, fields-none}
 use Rattle.rows.proofs.test_rows.Statement.{statement}
 use Rattle.rows.proofs.test_rows.Tie as tie
-use Rattle.rows.proofs.test_rows.Reads as reads
-use Rattle.rows.proofs.test_rows.Lts as lts
-use Rattle.rows.proofs.first_row_at_fault.Reads as first-row-at-fault-reads
-use Rattle.rows.proofs.row_fault.Reads as row-fault-reads
-use Rattle.rows.proofs.test_tree.Reads as test-tree-reads
 
--- src/lib.rt:212:11
 first-row-at-fault-requires : tie.Need-first-row-at-fault-requires
 first-row-at-fault-requires c κs = search needs
 
--- src/lib.rt:213:19
 enum-known-i : tie.Need-enum-known-i
 enum-known-i c = search needs
 
--- src/lib.rt:213:55
 add-t7 : tie.Need-add-t7
 add-t7 c = omega (arith, first-below _ (sym (c .before .before .before .first-row-at-fault .ensures) ∙ c .before .i .given .1))
 
--- src/lib.rt:213:62
 row-fault-requires : tie.Need-row-fault-requires
 row-fault-requires c κs =
     (omega (arith, first-below _ (sym (c .before .before .before .before .first-row-at-fault .ensures) ∙ c .before .before .i .given .1)), refl)
 
--- src/lib.rt:214:27
 enum-told : tie.Need-enum-told
 enum-told c = search needs
 
--- src/lib.rt:214:27
 test-tree-requires : tie.Need-test-tree-requires
 test-tree-requires c κs = search needs
 
--- src/lib.rt:209:1
 returns : tie.Need-returns
 returns c = fields-found _ _ _ (c .row-fault .ensures) (sym (c .before .before .before .before .before .first-row-at-fault .ensures) ∙ c .before .before .before .i .given .1)
 
--- src/lib.rt:209:1
 returns-2 : tie.Need-returns-2
 returns-2 c = fields-none _ _ (c .test-tree .ensures) (sym (c .before .before .before .first-row-at-fault .ensures) ∙ c .before .enum-told .given .1)
 

@@ -1,62 +1,45 @@
-use native.Mathlib.Omega.{arith}
+-- `sheet::print_rows` meets its contract: over 256 rows is COUNT; otherwise the numbers read are the list that is calculated, and the names' places lie inside the text.
+-- Assumes nothing.
 use borrow.Author.Needs.{needs}
-use lib.ListN.{length}
 use Rattle.sheet.specs.Sheet.{blankCard}
 use Rattle.sheet.proofs.SheetLaws.{printed-as, part-long, card-printed, refusal-printed, many-printed}
 use Rattle.sheet.proofs.print_rows.Statement.{statement}
 use Rattle.sheet.proofs.print_rows.Tie as tie
-use Rattle.sheet.proofs.print_rows.Reads as reads
-use Rattle.sheet.proofs.print_rows.Lts as lts
-use Rattle.print.proofs.print_card.Reads as print-card-reads
-use Rattle.print.proofs.print_refusal.Reads as print-refusal-reads
-use Rattle.whole.proofs.whole.Reads as whole-reads
 
--- src/lib.rt:28:9
 print-refusal-requires : tie.Need-print-refusal-requires
 print-refusal-requires c κs = search needs
 
--- src/lib.rt:28:9
 same-length : tie.Need-same-length
 same-length c = search needs
 
--- src/lib.rt:28:9
 returns : tie.Need-returns
 returns c =
     printed-as (many-printed _ _ _ _ _ (c .before .before .before .before .before .before .before .before .before .pre) (c .before .before .before .before .if1 .taken)) (c .before .before .print-refusal .ensures)
 
--- src/lib.rt:31:15
 mul-end : tie.Need-mul-end
 mul-end c = search needs
 
--- src/lib.rt:32:23
 slice-aggregate-whole : tie.Need-slice-aggregate-whole
 slice-aggregate-whole c = part-long _ _ _ _ _ (c .before .before .before .before .before .before .pre) (c .before .if1 .left)
 
--- src/lib.rt:32:37
 slice-aggregate-whole-2 : tie.Need-slice-aggregate-whole-2
 slice-aggregate-whole-2 c = search needs
 
--- src/lib.rt:32:9
 whole-requires : tie.Need-whole-requires
 whole-requires c κs = search needs
 
--- src/lib.rt:34:33
 slice-aggregate-print-card : tie.Need-slice-aggregate-print-card
 slice-aggregate-print-card c = search needs
 
--- src/lib.rt:34:9
 print-card-requires : tie.Need-print-card-requires
 print-card-requires c κs = search needs
 
--- src/lib.rt:36:9
 print-refusal-requires-2 : tie.Need-print-refusal-requires-2
 print-refusal-requires-2 c κs = search needs
 
--- src/lib.rt:23:1
 same-length-2 : tie.Need-same-length-2
 same-length-2 c = search needs
 
--- src/lib.rt:23:1
 returns-2 : tie.Need-returns-2
 unfolding blankCard
 returns-2 c =
@@ -64,11 +47,9 @@ returns-2 c =
     (card-printed _ _ _ _ _ (c .before .before .before .before .before .before .before .before .before .before .before .before .before .before .before .before .pre) (c .before .before .before .before .before .before .before .before .before .before .before .if1 .left) _ _ (c .before .before .before .before .before .before .before .before .whole .ensures) (c .before .before .before .before .before .if2 .taken) (c .before .before .before .before .before .before .before .before .whole .kept .1 .0))
     (c .before .before .print-card .ensures)
 
--- src/lib.rt:23:1
 same-length-3 : tie.Need-same-length-3
 same-length-3 c = search needs
 
--- src/lib.rt:23:1
 returns-3 : tie.Need-returns-3
 unfolding blankCard
 returns-3 c =

@@ -1,27 +1,20 @@
-use native.Mathlib.Omega.{arith}
+-- `surfpocket::surfpocket_whole` meets its contract: it hands on what `whole` gives.
+-- Assumes nothing.
 use borrow.Author.Needs.{needs}
 use mathlib.Core.Path.{ap, _∙_}
 use Rattle.surfpocket.specs.Answers.{answerOf}
 use Rattle.surfpocket.proofs.surfpocket_whole.Statement.{statement}
 use Rattle.surfpocket.proofs.surfpocket_whole.Tie as tie
-use Rattle.surfpocket.proofs.surfpocket_whole.Reads as reads
-use Rattle.surfpocket.proofs.surfpocket_whole.Lts as lts
-use Rattle.surfpocket.proofs.answered.Reads as answered-reads
-use Rattle.whole.proofs.whole.Reads as whole-reads
 
--- src/lib.rt:50:14
 whole-requires : tie.Need-whole-requires
 whole-requires c κs = search needs
 
--- src/lib.rt:50:5
 answered-requires : tie.Need-answered-requires
 answered-requires c κs = search needs
 
--- src/lib.rt:46:1
 same-length : tie.Need-same-length
 same-length c = search needs
 
--- src/lib.rt:46:1
 returns : tie.Need-returns
 returns c =
     let g = c .before .before .before .whole .ensures in
