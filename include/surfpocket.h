@@ -2,7 +2,7 @@
 
    `rt staticlib surfpocket` makes target/staticlib/libsurfpocket.a to link. The functions keep nothing between calls, take no lock
    and use no heap. A pointer must be good for the length that follows it (not null, even where the length is 0), counted in numbers
-   of 64 bits, and lent buffers must not overlap. */
+   of 64 bits or, for a text, in bytes, and lent buffers must not overlap. */
 #ifndef SURFPOCKET_H
 #define SURFPOCKET_H
 
@@ -18,8 +18,12 @@ extern "C" {
 #define SURFPOCKET_CARD_NUMBERS 3
 #define SURFPOCKET_MOST_ROWS 256
 
+/* The room, in bytes, that a printed card or refusal asks for. */
+#define SURFPOCKET_CARD_ROOM 22810
+
 /* The numbers given back. */
 #define SURFPOCKET_DONE 0
+#define SURFPOCKET_TEXT 1
 #define SURFPOCKET_COUNT 2
 #define SURFPOCKET_ROOM 3
 #define SURFPOCKET_FIELD 4
@@ -27,6 +31,8 @@ extern "C" {
 #define SURFPOCKET_PICKUP 6
 #define SURFPOCKET_DELAY 7
 #define SURFPOCKET_STUDY 8
+#define SURFPOCKET_CARD 9
+#define SURFPOCKET_EDIT 10
 
 /* The units of a reading. */
 #define SURFPOCKET_AMPERES 1
@@ -52,10 +58,21 @@ typedef struct {
    order of the rules and leaves the card as it was. The list, and a card's numbers past its rows, are never changed. */
 SurfpocketAnswer surfpocket_whole(const uint64_t *list, size_t list_length, uint64_t *card, size_t card_length);
 
+/* The replacement of the row at a place (from 1) by a row of SURFPOCKET_FIELDS numbers that keeps its number and its feeder: gives
+   DONE, puts the row into the list and works out the rows from it to the source on the card, or gives the first refusal and leaves
+   list and card as they were. Card rows off that path are read as they are and never changed. */
+SurfpocketAnswer surfpocket_replace(uint64_t *list, size_t list_length, uint64_t *card, size_t card_length, uint64_t place,
+                                    const uint64_t *row, size_t row_length);
+
 /* The currents of a study in whole mA: gives DONE with the greatest rounded up and the least rounded down, or STUDY with both 0.
    A rated current, in mA, counts per unit only. A unit that is none of the three is STUDY at place 0. */
 SurfpocketStudy surfpocket_study(uint64_t greatest_unit, float greatest, uint64_t greatest_rated,
                                  uint64_t least_unit, float least, uint64_t least_rated);
+
+/* From the text of a list to its printed card or refusal: writes it to the front of out and gives how many bytes it has. Where out
+   has fewer than SURFPOCKET_CARD_ROOM bytes it writes nothing and gives 0. The text, and bytes past what is written, are never
+   changed. */
+size_t surfpocket_card(const uint8_t *text, size_t text_length, uint8_t *out, size_t out_length);
 
 #ifdef __cplusplus
 }

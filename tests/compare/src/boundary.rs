@@ -26,6 +26,16 @@ extern "C" {
         card_length: usize,
     ) -> SurfpocketAnswer;
 
+    fn surfpocket_replace(
+        list: *mut u64,
+        list_length: usize,
+        card: *mut u64,
+        card_length: usize,
+        place: u64,
+        row: *const u64,
+        row_length: usize,
+    ) -> SurfpocketAnswer;
+
     fn surfpocket_study(
         greatest_unit: u64,
         greatest: f32,
@@ -34,14 +44,33 @@ extern "C" {
         least: f32,
         least_rated: u64,
     ) -> SurfpocketStudy;
+
+    fn surfpocket_card(
+        text: *const u8,
+        text_length: usize,
+        out: *mut u8,
+        out_length: usize,
+    ) -> usize;
+}
+
+fn answered(given: SurfpocketAnswer) -> Answer {
+    Answer { number: given.number, place: given.place, field: given.field }
 }
 
 pub fn whole(list: &[u64], card: &mut [u64]) -> Answer {
     // SAFETY: both slices are valid for their lengths, and the function is
     // proved to read and write nothing else.
-    let given =
-        unsafe { surfpocket_whole(list.as_ptr(), list.len(), card.as_mut_ptr(), card.len()) };
-    Answer { number: given.number, place: given.place, field: given.field }
+    answered(unsafe {
+        surfpocket_whole(list.as_ptr(), list.len(), card.as_mut_ptr(), card.len())
+    })
+}
+
+pub fn replace(list: &mut [u64], card: &mut [u64], place: u64, row: &[u64]) -> Answer {
+    let (l, c) = (list.as_mut_ptr(), card.as_mut_ptr());
+    // SAFETY: as above; the three slices do not overlap.
+    answered(unsafe {
+        surfpocket_replace(l, list.len(), c, card.len(), place, row.as_ptr(), row.len())
+    })
 }
 
 /// A reading as the boundary takes it: the unit by number, the single by bits.
@@ -74,4 +103,13 @@ pub fn study(greatest: Reading, least: Reading) -> StudyAnswer {
         greatest: given.greatest,
         least: given.least,
     }
+}
+
+/// The room that a print asks for.
+pub const CARD_ROOM: usize = 22_810;
+
+/// How many bytes of `out` were written: a card or a refusal, or nothing for want of room.
+pub fn card(text: &[u8], out: &mut [u8]) -> usize {
+    // SAFETY: as for `whole`.
+    unsafe { surfpocket_card(text.as_ptr(), text.len(), out.as_mut_ptr(), out.len()) }
 }

@@ -2,8 +2,11 @@
 //! second program.
 
 pub mod boundary;
+pub mod changes;
+pub mod bounded_texts;
 pub mod competing;
 pub mod lists;
 pub mod run;
 pub mod singles;
 pub mod studies;
+pub mod texts;

@@ -2,13 +2,15 @@
 //! program. `compare singles [--all]`: singles against doubles, a part or all.
 
 use compare::run::{Score, Seen};
-use compare::{competing, lists, singles, studies};
+use compare::{changes, competing, lists, singles, studies, texts};
 use std::process::ExitCode;
 use std::slice;
 use std::time::Instant;
 
 /// A step through the patterns that meets every exponent and many fractions.
 const STEP: u64 = 1_021;
+/// Fewer texts compared fail the run.
+const LEAST_TEXTS: u64 = 200_000;
 /// How much more a long run compares.
 const LONG: u64 = 10;
 
@@ -34,7 +36,8 @@ fn main() -> ExitCode {
 
 fn compare_all(seed: u64, times: u64) -> ExitCode {
     println!("seed {seed}");
-    let (mut score, mut whole, mut study) = (Score::default(), Seen::default(), Seen::default());
+    let (mut score, mut whole) = (Score::default(), Seen::default());
+    let (mut study, mut text, mut change) = (Seen::default(), Seen::default(), Seen::default());
     score.run(&lists::KINDS, seed, times, &mut whole);
     score.run(slice::from_ref(&competing::KIND), seed, times, &mut whole);
     let share = 100 * whole.accepted / whole.compared.max(1);
@@ -42,8 +45,14 @@ fn compare_all(seed: u64, times: u64) -> ExitCode {
     score.count((30..=70).contains(&share), &line);
     lists::GROUPS.iter().for_each(|group| score.check(group, &whole));
     score.check(&competing::PAIRS, &whole);
+    score.run(&changes::KINDS, seed, times, &mut change);
+    changes::GROUPS.iter().for_each(|group| score.check(group, &change));
     score.run(&studies::KINDS, seed, times, &mut study);
     studies::GROUPS.iter().for_each(|group| score.check(group, &study));
+    score.run(&texts::KINDS, seed, times, &mut text);
+    let line = format!("{} texts, {} accepted", text.compared, text.accepted);
+    score.count(text.compared >= LEAST_TEXTS, &line);
+    texts::GROUPS.iter().for_each(|group| score.check(group, &text));
     match singles::compare(STEP, false) {
         Ok(compared) => score.count(true, &format!("singles, a part of all: {compared} compared")),
         Err(difference) => score.count(false, &format!("singles: {difference}")),

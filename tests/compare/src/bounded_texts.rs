@@ -1,0 +1,228 @@
+//! Texts on each side of the bounds of section 6, with the number and place
+//! that the document gives each.
+
+use crate::boundary::CARD_ROOM;
+use crate::run::{Found, Item, Seen};
+use crate::texts::{ample, same};
+use second::answer::*;
+use second::generate::{list_shaped, sized_text, text, Shape};
+use second::row::{FIELDS, MOST_ROWS};
+use second::text::{header, MOST_BYTES};
+
+/// The list of section 6.
+const LIST: &[u8] = include_bytes!("../../../examples/lists/two-feeders.csv");
+
+const OK: Item = (DONE, 0);
+const BAD_ROW: Item = (TEXT, 2);
+
+/// What a text is, its bytes, and the number and place it must give.
+type Case = (String, Vec<u8>, Item);
+
+pub fn compare(_: u64, seed: u64, seen: &mut Seen) -> Found {
+    let cases = [sizes(), row_counts(seed), line_ends(), names(), numbers()].concat();
+    for (what, text, wanted) in cases {
+        let given = same(&text, CARD_ROOM, seen)?;
+        if given != wanted {
+            return Err(format!("{what}: {given:?}, not {wanted:?}"));
+        }
+    }
+    Ok(())
+}
+
+/// The list with another cell in that column of row 1.
+fn with_cell(column: usize, cell: &[u8]) -> Vec<u8> {
+    let start = header().len() + 2;
+    let end = start + LIST[start..].iter().position(|&byte| byte == b'\r').expect("a line end");
+    let mut cells: Vec<&[u8]> = LIST[start..end].split(|&byte| byte == b',').collect();
+    cells[column] = cell;
+    [&LIST[..start], &cells.join(&b','), &LIST[end..]].concat()
+}
+
+fn after_header(rest: &[u8]) -> Vec<u8> {
+    [header().as_bytes(), b"\r\n", rest].concat()
+}
+
+/// The beginning and the byte over and over, up to so many bytes.
+fn filled(mut text: Vec<u8>, byte: u8, bytes: usize) -> Vec<u8> {
+    text.resize(bytes, byte);
+    text
+}
+
+fn sizes() -> Vec<Case> {
+    let mut cases = vec![
+        ("no bytes".to_string(), vec![], (TEXT, 1)),
+        ("most bytes, rows".to_string(), sized_text(MOST_BYTES), (COUNT, 0)),
+        ("a byte more, rows".to_string(), sized_text(MOST_BYTES + 1), (TEXT, 0)),
+    ];
+    for (what, start, line) in [
+        ("one open quote", after_header(b"1,\""), 2),
+        ("quotes only", after_header(b"1,"), 2),
+        ("quotes from the first byte", vec![], 1),
+    ] {
+        for byte in [b'"', b'a', b','] {
+            let sized = |bytes| filled(start.clone(), byte, bytes);
+            let what = |bytes| format!("{what}, {bytes} bytes of {byte}");
+            cases.push((what(MOST_BYTES), sized(MOST_BYTES), (TEXT, line)));
+            cases.push((what(MOST_BYTES + 1), sized(MOST_BYTES + 1), (TEXT, 0)));
+        }
+    }
+    let ended = |bytes: usize| [&sized_text(bytes - 2), &b"\r\n"[..]].concat();
+    cases.push(("most bytes, last CRLF".to_string(), ended(MOST_BYTES), (COUNT, 0)));
+    cases.push(("a byte more, last CRLF".to_string(), ended(MOST_BYTES + 1), (TEXT, 0)));
+    cases
+}
+
+fn row_counts(seed: u64) -> Vec<Case> {
+    let rows = |count: usize| {
+        let row = [1; FIELDS];
+        text(&row.repeat(count), seed)
+    };
+    let most = MOST_ROWS as u64;
+    let done = (0..).map(|more| list_shaped(Shape::Star, most, seed ^ more));
+    let accepted = done.map(|list| text(&list, seed)).find(|text| is_done(text));
+    let bad_after = |count: usize| {
+        let text = rows(count);
+        let end = if text.ends_with(b"\r\n") { &b"x"[..] } else { &b"\r\nx"[..] };
+        ([&text, end].concat(), (TEXT, count as u64 + 2))
+    };
+    let mut cases = vec![
+        ("no rows".to_string(), header().into_bytes(), (COUNT, 0)),
+        ("no rows, CRLF".to_string(), after_header(b""), (COUNT, 0)),
+        ("most rows, accepted".to_string(), accepted.expect("half are"), OK),
+        ("most rows".to_string(), rows(MOST_ROWS), (FIELD, 1)),
+        ("a row more".to_string(), rows(MOST_ROWS + 1), (COUNT, 0)),
+        ("two rows more".to_string(), rows(MOST_ROWS + 2), (COUNT, 0)),
+    ];
+    for count in [0, 1, MOST_ROWS - 1, MOST_ROWS, MOST_ROWS + 1, MOST_ROWS + 2, 900] {
+        let (text, wanted) = bad_after(count);
+        cases.push((format!("a bad line after {count} rows"), text, wanted));
+    }
+    cases
+}
+
+fn is_done(text: &[u8]) -> bool {
+    second::text::card(text).starts_with(b"name,")
+}
+
+fn line_ends() -> Vec<Case> {
+    let rows = &LIST[header().len() + 2..LIST.len() - 2];
+    let cut = rows.iter().position(|&byte| byte == b'\r').expect("two rows");
+    let (first, second) = (&rows[..cut], &rows[cut + 2..]);
+    let joined =
+        |ends: [&[u8]; 3]| [header().as_bytes(), ends[0], first, ends[1], second, ends[2]].concat();
+    const CRLF: &[u8] = b"\r\n";
+    let mut cases = vec![
+        ("as it stands".to_string(), joined([CRLF, CRLF, CRLF]), OK),
+        ("no last CRLF".to_string(), joined([CRLF, CRLF, b""]), OK),
+        ("empty first line".to_string(), [CRLF, LIST].concat(), (TEXT, 1)),
+        ("only CRLF".to_string(), CRLF.to_vec(), (TEXT, 1)),
+        ("LF alone everywhere".to_string(), joined([b"\n"; 3]), (TEXT, 1)),
+        ("CR alone everywhere".to_string(), joined([b"\r"; 3]), (TEXT, 1)),
+    ];
+    // Each bad end is found in the line it should have ended, an empty line in its own.
+    for (end, later) in
+        [(&b"\n"[..], 0), (b"\r", 0), (b"\n\r", 0), (b"\r\r\n", 0), (b" \r\n", 0), (b"\r\n\r\n", 1)]
+    {
+        for place in 0..3 {
+            let mut ends = [CRLF; 3];
+            ends[place] = end;
+            let wanted = (TEXT, place as u64 + 1 + later);
+            cases.push((format!("{end:?} at the end of line {}", place + 1), joined(ends), wanted));
+        }
+    }
+    cases
+}
+
+fn names() -> Vec<Case> {
+    let quoted = |bytes: usize| [b"\"", &b"q".repeat(bytes - 2)[..], b"\""].concat();
+    let good: [&[u8]; 15] = [
+        b"F",
+        b" ",
+        b"~",
+        b"\"~\"",
+        b"\"\"",
+        b"\"a,b\"",
+        b"\",\"",
+        b"\"a\"\"b\"",
+        b"\"\"\"\"",
+        b"\"\"\"a\"",
+        b"\"\"\",\"\"\"",
+        &b"\"".repeat(24),
+        &b"F".repeat(24),
+        &quoted(24),
+        b"'",
+    ];
+    let bad: [&[u8]; 21] = [
+        b"",
+        b"\"",
+        b"\"\"\"",
+        b"a\"",
+        b"a\"b",
+        b"\"a\"b",
+        b"a,b",
+        b"\t",
+        b"\x1f",
+        b"\x7f",
+        b"\"\x7f\"",
+        b"\"\x1f\"",
+        b"\x80",
+        b"\xff",
+        b"\"a\r\nb\"",
+        b"\"a\nb\"",
+        b"\"a\"\"",
+        &b"\"".repeat(25),
+        &b"\"".repeat(26),
+        &b"F".repeat(25),
+        &quoted(25),
+    ];
+    let case = |name: &&[u8], wanted| {
+        (format!("name {:?}", String::from_utf8_lossy(name)), with_cell(1, name), wanted)
+    };
+    good.iter()
+        .map(|name| case(name, OK))
+        .chain(bad.iter().map(|name| case(name, BAD_ROW)))
+        .collect()
+}
+
+/// Every column but the name's, with numbers that are none and numbers of nine digits.
+fn numbers() -> Vec<Case> {
+    const BAD: [&[u8]; 16] = [
+        b"",
+        b"00",
+        b"01",
+        b"000000001",
+        b"0000000001",
+        b"1000000000",
+        b"9999999999",
+        b"+1",
+        b"-1",
+        b" 1",
+        b"1 ",
+        b"1.0",
+        b"1e3",
+        b"\"1\"",
+        b"0x1",
+        b"18446744073709551617",
+    ];
+    let columns = || (0..=FIELDS).filter(|&column| column != 1);
+    let bad = columns().flat_map(|column| BAD.iter().map(move |&cell| (column, cell, BAD_ROW)));
+    let nine = columns().map(|column| (column, &b"999999999"[..], (FIELD, 1)));
+    let fits = [(10, &b"100000000"[..], OK), (18, b"0", OK)];
+    bad.chain(nine)
+        .chain(fits)
+        .map(|(column, cell, wanted)| {
+            let what = format!("{:?} in column {column}", String::from_utf8_lossy(cell));
+            (what, with_cell(column, cell), wanted)
+        })
+        .collect()
+}
+
+/// The column by the count: every byte as its cell, before it and after it.
+pub fn every_byte(count: u64, seed: u64, seen: &mut Seen) -> Found {
+    for byte in 0..=u8::MAX {
+        for cell in [vec![byte], vec![byte, b'1'], vec![b'1', byte], vec![b'"', byte, b'"']] {
+            ample(&with_cell(count as usize, &cell), seed, seen)?;
+        }
+    }
+    Ok(())
+}
