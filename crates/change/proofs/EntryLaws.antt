@@ -6,14 +6,16 @@ use native.Mathlib.Omega.{arith}
 use lib.ListN.{length, take, drop, drop-of-length-le}
 use Rattle.rows.specs.declared.Answer.{Answer}
 use Rattle.rows.specs.declared.Answer.the-variants.{Done}
+use Rattle.rows.specs.declared.Given.{Given}
 use Rattle.rows.specs.declared.Tested.{Tested}
 use Rattle.rows.specs.declared.Tested.the-variants.{Passed, Refused}
+use Rattle.rows.specs.Answer.{givenBy}
 use Rattle.rows.specs.Tests.{sizeTest, rowsTest}
 use Rattle.rows.proofs.TestLaws.{size-passed}
 use Rattle.work.specs.WorkOut.{Worked, finished, refused, workOut}
 use Rattle.change.specs.Path.{pathOf}
-use Rattle.change.specs.Ready.{PutReady, PathReady, ReworkReady, ExchangeReady, testedOf, cardOf, Reworked, exchanged, Exchanged}
-use Rattle.change.specs.Replace.{putList, editTest, cardTest, onPassed, reworked, outcome, replaced}
+use Rattle.change.specs.Ready.{PutReady, PathReady, ReworkReady, ExchangeReady, testedOf, cardOf, Reworked, exchanged, Exchanged, Gave}
+use Rattle.change.specs.Replace.{putList, editTest, cardTest, onPassed, reworked, outcome, Replaced, replaced}
 use Rattle.change.proofs.EndLaws.{reworked-refused}
 use Rattle.change.proofs.PutLaws.{put-back}
 use Rattle.change.proofs.TestLaws.{EditFits, edit-passed}
@@ -104,3 +106,7 @@ module _ (l c : List ℕ) (place : ℕ) (row : List ℕ) where
           (a : Answer) (l′ c′ : List ℕ) → Exchanged (exchanged l c (place - 1) row) a l′ c′ → Exchanged (replaced l c place row) a l′ c′
       unfolding replaced onPassed
       answer-exchanged a l′ c′ z = rw (sym e ∙ f, sym e′ ∙ f′) z
+
+-- the answer in section 4's numbers
+pub gave : {z : Replaced} {a : Answer} {g : Given} {l c : List ℕ} → g ≡ givenBy a → Exchanged z a l c → Gave z g l c
+gave e x = record { numbers = e ∙ ap givenBy (x .answer); list = x .list; card = x .card }

@@ -1,7 +1,6 @@
 -- `replace` gives the answer of `answer` in section 4's numbers. Assumes nothing.
-use mathlib.Core.Path.{ap, _∙_}
 use borrow.Author.Needs.{needs}
-use Rattle.rows.specs.Answer.{givenBy}
+use Rattle.change.proofs.EntryLaws.{gave}
 use Rattle.change.proofs.replace.Statement.{statement}
 use Rattle.change.proofs.replace.Tie as tie
 
@@ -18,9 +17,7 @@ same-length-2 : tie.Need-same-length-2
 same-length-2 c = search needs
 
 returns : tie.Need-returns
-returns c =
-    let z = c .before .before .before .before .before .answer .ensures in
-    record { numbers = c .numbers .ensures ∙ ap givenBy (z .answer); list = z .list; card = z .card }
+returns c = gave (c .numbers .ensures) (c .before .before .before .before .before .answer .ensures)
 
 pub replace-spec : {M : Type 1} → statement M
 replace-spec =
