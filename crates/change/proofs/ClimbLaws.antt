@@ -22,7 +22,7 @@ use Rattle.work.specs.Card.{pickupIn, delayIn, putRow}
 use Rattle.work.specs.Ready.{WorkReady, Stepped}
 use Rattle.work.specs.Sums.{fedAt, pushed, stepBy, step}
 use Rattle.work.specs.WorkOut.{Worked, onSettled, workOut}
-use Rattle.work.proofs.WorkingLaws.{work-ready, work-settles, work-next}
+use Rattle.work.proofs.WorkingLaws.{work-ready, work-settles, settled-to, work-next}
 use Rattle.whole.proofs.FrameLaws.{fed-below}
 use Rattle.change.specs.declared.Numbers.{Numbers}
 use Rattle.change.specs.Path.{pathOf, onPath}
@@ -128,7 +128,8 @@ module _ (l : List ℕ) (i : ℕ) (c s : List ℕ) (r : ClimbReady l i c s) wher
             (record {
               is-row = rw ef (k .within);
               working =
-                  work-next l (off l i) c s (r .working) i (r .is-row) (rw (on-self l (r .working .feeds) i (r .is-row))) (off l (f - 1)) off-next (p .outcome) (sym (p .settled-by));
+                  work-next l (off l i) c s (r .working) i (r .is-row) (rw (on-self l (r .working .feeds) i (r .is-row))) (off l (f - 1)) off-next (p .outcome)
+                  (settled-to l (off l i) c s (r .working) i (r .is-row) (p .outcome) (sym (p .settled-by)));
             }))
 
         -- fewer rows are left above

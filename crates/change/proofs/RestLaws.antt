@@ -16,7 +16,7 @@ use Rattle.rows.proofs.InRangeLaws.{passed-feeds}
 use Rattle.work.specs.Card.{pickupIn, delayIn}
 use Rattle.work.specs.Sums.{pushed}
 use Rattle.work.proofs.StepLaws.{pushed-length}
-use Rattle.work.proofs.WorkingLaws.{Working}
+use Rattle.work.specs.Working.{Working}
 use Rattle.whole.proofs.AllLaws.{all-start}
 use Rattle.change.specs.Path.{aboveOf, onPath}
 use Rattle.change.specs.Ready.{FoundReady, RestReady}

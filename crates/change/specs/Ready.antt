@@ -14,7 +14,7 @@ use Rattle.rows.specs.Tests.{rowsTest}
 use Rattle.work.specs.Card.{pickupIn, delayIn, cutoffIn}
 use Rattle.work.specs.Ready.{PushReady}
 use Rattle.work.specs.WorkOut.{Worked, finished, refused}
-use Rattle.work.proofs.WorkingLaws.{Working}
+use Rattle.work.specs.Working.{Working}
 use Rattle.change.specs.declared.Numbers.{Numbers}
 use Rattle.change.specs.Path.{onPath}
 use Rattle.change.specs.Replace.{putList, cardTest, reworked, outcome, Replaced}

@@ -20,7 +20,7 @@ ghost use Rattle.rows.specs.Row.{rows, rowAt};
 ghost use Rattle.work.specs.Card.{pickupIn, delayIn};
 ghost use Rattle.work.specs.Sums.{pushed};
 ghost use Rattle.work.specs.WorkOut.{workOut};
-ghost use Rattle.work.proofs.WorkingLaws.{Working};
+ghost use Rattle.work.specs.Working.{Working};
 ghost use Rattle.change.specs.Path.{pathOf, onPath, aboveOf};
 ghost use Rattle.change.specs.Ready.{numbersAt, putNumbers, PutReady, FoundReady, ClimbReady, RestReady, PathReady, ReworkReady, ExchangeReady, exchanged, Reworked, Exchanged, Gave};
 ghost use Rattle.change.specs.Replace.{putList, editTest, cardRight, cardTest, reworked, replaced};

@@ -34,7 +34,8 @@ use Rattle.work.specs.Sums.{fedAt, pushed, Step, stepBy, step}
 use Rattle.work.specs.WorkOut.{Worked, finished, refused, onSettled, workOut, upFrom}
 use Rattle.work.proofs.CardLaws.{same-fed, putRow-length}
 use Rattle.work.proofs.StepLaws.{pushed-length}
-use Rattle.work.proofs.WorkingLaws.{Working, work-ready, work-settles, work-next}
+use Rattle.work.specs.Working.{Working, gatheredBy}
+use Rattle.work.proofs.WorkingLaws.{work-ready, work-settles, settled-to, work-next}
 use Rattle.whole.specs.Ready.{AllReady}
 use Rattle.whole.specs.Whole.{calculation, workedAs}
 use Rattle.whole.proofs.FrameLaws.{fed-below}
@@ -68,7 +69,7 @@ max-none : (n : ℕ) (f : ℕ → ℕ) → ((j : ℕ) → f j ≡ 0) → 0 ≡ m
 max-none n f h = let m = maxTo-bound f 0 n (λ j _. omega (arith, h j)) in omega arith
 
 module _ (l : List ℕ) (n : ℕ) (c s : List ℕ) (a : AllReady l n c s) where
-  start-summed : (k : ℕ) → fedAt s k ≡ Rattle.work.proofs.WorkingLaws.gatheredBy (below 0) l (pickupIn c) (delayIn c) k
+  start-summed : (k : ℕ) → fedAt s k ≡ gatheredBy (below 0) l (pickupIn c) (delayIn c) k
   start-summed k =
       same-fed
       (a .sums-clear (k * 4) ∙ sym (sumTo-zero _ (rows l) (λ j _. none-done j _ _)))
@@ -148,7 +149,8 @@ module _ (l c₀ s₀ c s : List ℕ) (i : ℕ) (v : Passing l c₀ s₀ c s i) 
           rw (z .card, z .sums)
           (record {
             within = omega arith;
-            working = work-next l (below i) c s (v .working) i h (le-ltb i i (omega arith)) (below (i + 1)) (below-next i) o (sym e);
+            working = work-next l (below i) c s (v .working) i h (le-ltb i i (omega arith)) (below (i + 1)) (below-next i) o
+                (settled-to l (below i) c s (v .working) i h o (sym e));
             left = sym (goes-on ∙ ap (λ (s : Settled). onSettled i s (λ o. workOut l (upFrom (i + 1) (rows l - (i + 1))) (putRow c i o))) e);
             card-length = putRow-length c i o ∙ v .card-length;
             sums-length = pushed-length (rowAt l i) (o .pickup) (o .delay) s ∙ v .sums-length;

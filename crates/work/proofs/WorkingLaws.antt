@@ -29,29 +29,9 @@ use Rattle.settle.proofs.PickupLaws.{current-volts}
 use Rattle.work.specs.Card.{pickupIn, delayIn, putRow}
 use Rattle.work.specs.Ready.{WorkReady}
 use Rattle.work.specs.Sums.{fedAt, putFed, joined, pushed}
+use Rattle.work.specs.Working.{Working, gatheredBy}
 use Rattle.work.proofs.CardLaws.{same-fed, putRow-length, putRow-pickup, putRow-delay, putRow-pickup-other, putRow-delay-other, putFed-length, putFed-same, putFed-other}
 use Rattle.work.proofs.StepLaws.{pushed-source, pushed-feeder, pushed-length}
-
--- what the rows that row k feeds ask of it, as far as they are done
-abbrev pub gatheredBy : (ℕ → Bool) → List ℕ → (ℕ → ℕ) → (ℕ → ℕ) → ℕ → Fed
-gatheredBy done l p d k =
-    record {
-      load = sumTo (rows l) (λ j. cond (done j && fed l k j) (loadOf l j) 0);
-      clearance = maxTo (rows l) (λ j. cond (done j && fed l k j) (clearance (rowAt l j) (p j)) 0);
-      shortfall = maxTo (rows l) (λ j. cond (done j && fed l k j) (shortfall (rowAt l j)) 0);
-      earliest = maxTo (rows l) (λ j. cond (done j && fed l k j) (earliest (rowAt l j) (d j)) 0);
-    }
-
--- a list, a card and sums in the midst of the work
-pub record Working (l : List ℕ) (done : ℕ → Bool) (c s : List ℕ) : Type 0 where
-  pub rows-to : rows l ≤ 256
-  pub in-range : InRange l
-  pub feeds : Feeds l
-  pub card-room : rows l * 3 ≤ length c
-  pub sums-room : rows l * 4 ≤ length s
-  pub pickups-to : (j : ℕ) → j < rows l → done j ≡ true → pickupIn c j ≤ 100000000
-  pub delays-to : (j : ℕ) → j < rows l → done j ≡ true → delayIn c j ≤ 100000
-  pub summed : (k : ℕ) → k < rows l → fedAt s k ≡ gatheredBy done l (pickupIn c) (delayIn c) k
 
 -- a number that counts only sometimes is at most what it is when it counts
 counted-to : (b : Bool) (x m : ℕ) → (b ≡ true → x ≤ m) → cond b x 0 ≤ m
@@ -133,9 +113,13 @@ module _ (l : List ℕ) (done : ℕ → Bool) (c s : List ℕ) (w : Working l do
       (maxTo-same _ _ (rows l) (λ j b. counted-all (done j) (fed l i j) (earliest (rowAt l j) (delayIn c j)) (all j b)))) ∙
       settled-by l (w .in-range) (pickupIn c) (delayIn c) i h
 
-  -- row i is worked out, and done from then on
+  pub settled-to :
+      (i : ℕ) → i < rows l → (o : Outcome) → Set o ≡ settledBy (rowAt l i) (fedAt s i) → (o .pickup ≤ 100000000) × (o .delay ≤ 100000)
+  settled-to i h o set = set-bounded _ _ o (row-bounded l (w .in-range) i h) set
+
+  -- row i is written into the card, and done from then on
   module _ (i : ℕ) (h : i < rows l) (new : done i ≡ false) (done′ : ℕ → Bool) (next : (j : ℕ) → done′ j ≡ (done j || eqb j i)) (o : Outcome)
-      (set : Set o ≡ settledBy (rowAt l i) (fedAt s i)) where
+      (to : (o .pickup ≤ 100000000) × (o .delay ≤ 100000)) where
     r : Row
     r = rowAt l i
 
@@ -212,7 +196,7 @@ module _ (l : List ℕ) (done : ℕ → Bool) (c s : List ℕ) (w : Working l do
           pickups-to =
               λ j b g.
               ⊎-elim
-              (λ e. rw (eqb-true j i e, putRow-pickup c i o fits) (set-bounded _ _ o (row-bounded l (w .in-range) i h) set .0))
+              (λ e. rw (eqb-true j i e, putRow-pickup c i o fits) (to .0))
               (λ e.
               let n = eqb-false j i e in
               rw (putRow-pickup-other c i o j n) (w .pickups-to j b (was-done j n g)))
@@ -220,7 +204,7 @@ module _ (l : List ℕ) (done : ℕ → Bool) (c s : List ℕ) (w : Working l do
           delays-to =
               λ j b g.
               ⊎-elim
-              (λ e. rw (eqb-true j i e, putRow-delay c i o fits) (set-bounded _ _ o (row-bounded l (w .in-range) i h) set .1))
+              (λ e. rw (eqb-true j i e, putRow-delay c i o fits) (to .1))
               (λ e.
               let n = eqb-false j i e in
               rw (putRow-delay-other c i o j n) (w .delays-to j b (was-done j n g)))

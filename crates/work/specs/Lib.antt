@@ -2,3 +2,4 @@ pub mod Card
 pub mod Ready
 pub mod Sums
 pub mod WorkOut
+pub mod Working

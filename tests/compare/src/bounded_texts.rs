@@ -133,55 +133,52 @@ fn line_ends() -> Vec<Case> {
     cases
 }
 
+const GOOD_NAMES: [&[u8]; 12] = [
+    b"F",
+    b" ",
+    b"~",
+    b"'",
+    b"\"~\"",
+    b"\"\"",
+    b"\"a,b\"",
+    b"\",\"",
+    b"\"a\"\"b\"",
+    b"\"\"\"\"",
+    b"\"\"\"a\"",
+    b"\"\"\",\"\"\"",
+];
+
+const BAD_NAMES: [&[u8]; 17] = [
+    b"",
+    b"\"",
+    b"\"\"\"",
+    b"a\"",
+    b"a\"b",
+    b"\"a\"b",
+    b"a,b",
+    b"\t",
+    b"\x1f",
+    b"\x7f",
+    b"\"\x7f\"",
+    b"\"\x1f\"",
+    b"\x80",
+    b"\xff",
+    b"\"a\r\nb\"",
+    b"\"a\nb\"",
+    b"\"a\"\"",
+];
+
 fn names() -> Vec<Case> {
-    let quoted = |bytes: usize| [b"\"", &b"q".repeat(bytes - 2)[..], b"\""].concat();
-    let good: [&[u8]; 15] = [
-        b"F",
-        b" ",
-        b"~",
-        b"\"~\"",
-        b"\"\"",
-        b"\"a,b\"",
-        b"\",\"",
-        b"\"a\"\"b\"",
-        b"\"\"\"\"",
-        b"\"\"\"a\"",
-        b"\"\"\",\"\"\"",
-        &b"\"".repeat(24),
-        &b"F".repeat(24),
-        &quoted(24),
-        b"'",
-    ];
-    let bad: [&[u8]; 21] = [
-        b"",
-        b"\"",
-        b"\"\"\"",
-        b"a\"",
-        b"a\"b",
-        b"\"a\"b",
-        b"a,b",
-        b"\t",
-        b"\x1f",
-        b"\x7f",
-        b"\"\x7f\"",
-        b"\"\x1f\"",
-        b"\x80",
-        b"\xff",
-        b"\"a\r\nb\"",
-        b"\"a\nb\"",
-        b"\"a\"\"",
-        &b"\"".repeat(25),
-        &b"\"".repeat(26),
-        &b"F".repeat(25),
-        &quoted(25),
-    ];
-    let case = |name: &&[u8], wanted| {
+    let sized = |bytes: usize| {
+        let quoted = [b"\"", &b"q".repeat(bytes - 2)[..], b"\""].concat();
+        [b"F".repeat(bytes), b"\"".repeat(bytes), quoted]
+    };
+    let case = |name: &[u8], wanted| {
         (format!("name {:?}", String::from_utf8_lossy(name)), with_cell(1, name), wanted)
     };
-    good.iter()
-        .map(|name| case(name, OK))
-        .chain(bad.iter().map(|name| case(name, BAD_ROW)))
-        .collect()
+    let good = GOOD_NAMES.map(<[u8]>::to_vec).into_iter().chain(sized(24));
+    let bad = BAD_NAMES.map(<[u8]>::to_vec).into_iter().chain(sized(25)).chain(sized(26));
+    good.map(|name| case(&name, OK)).chain(bad.map(|name| case(&name, BAD_ROW))).collect()
 }
 
 /// Every column but the name's, with numbers that are none and numbers of nine digits.
@@ -217,11 +214,12 @@ fn numbers() -> Vec<Case> {
         .collect()
 }
 
-/// The column by the count: every byte as its cell, before it and after it.
+/// The column by the count: every byte alone, before a digit, after one, and in quotes.
 pub fn every_byte(count: u64, seed: u64, seen: &mut Seen) -> Found {
+    let column = count as usize % (FIELDS + 1);
     for byte in 0..=u8::MAX {
         for cell in [vec![byte], vec![byte, b'1'], vec![b'1', byte], vec![b'"', byte, b'"']] {
-            ample(&with_cell(count as usize, &cell), seed, seen)?;
+            ample(&with_cell(column, &cell), seed, seen)?;
         }
     }
     Ok(())

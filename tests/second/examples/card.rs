@@ -1,4 +1,5 @@
-//! The card by the second program, standard input to standard output: makes the stored outputs of tests/program.
+//! The card by the second program, standard input to standard output: makes
+//! the stored outputs of tests/program.
 
 use std::io::{self, Read, Write};
 
