@@ -6,8 +6,8 @@ use lib.ListN.{set}
 use Rattle.rows.specs.declared.Answer.{Answer}
 use Rattle.rows.specs.declared.Answer.the-variants.{Done, Pickup, Delay}
 use Rattle.settle.specs.Conditions.{eachFed, clearOf}
-use Rattle.whole.specs.Whole.{Result, whole}
-use Rattle.change.specs.Replace.{Replaced, replaced}
+use Rattle.whole.specs.Whole.{whole}
+use Rattle.change.specs.Replace.{replaced}
 
 -- the list of section 6: F1, fed by IN
 unfoldable pub twoRows : List ℕ

@@ -1,15 +1,14 @@
 -- Laws of `first`: it gives the first number that passes, and nothing where none does. Assumes nothing.
-use mathlib.Core.Path.{_≡_, refl, sym, ap, _∙_}
-use mathlib.Core.Bool.{Bool, true, false, cond}
+use mathlib.Core.Path.{_≡_, refl, _∙_}
+use mathlib.Core.Bool.{Bool, true, false}
 use mathlib.Core.Logic.{⊎-elim}
 use Prim.Native.Nat.{ℕ, zero, suc, _+_, _-_, _≤_, _<_}
 use native.Mathlib.Nat.{suc-add, add-suc, eq-or-lt-of-le}
 use native.Mathlib.Numerals.{add-one}
 use native.Mathlib.Omega.{arith}
-use Rattle.grid.specs.declared.Found.{Found}
 use Rattle.grid.specs.declared.Found.the-variants.{At, Nothing}
 use Rattle.grid.specs.First.{first}
-use Rattle.grid.proofs.BoolLaws.{passes-or-fails, not-both, fails}
+use Rattle.grid.proofs.BoolLaws.{passes-or-fails}
 
 module _ (ok : ℕ → Bool) where
   pub first-step-true : (i n : ℕ) → i < n → ok i ≡ true → first ok i (n - i) ≡ At i

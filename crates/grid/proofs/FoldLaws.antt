@@ -1,15 +1,15 @@
 -- Laws of sums, maxima and `every` below n. Assumes nothing.
-use mathlib.Core.Path.{_≡_, refl, sym, ap, ap₂, _∙_}
+use mathlib.Core.Path.{_≡_, refl, ap, ap₂, _∙_}
 use mathlib.Core.Bool.{Bool, true, false, cond, _&&_, _||_, or-false, or-true}
 use mathlib.Core.Logic.{_⊎_, inl, inr, ⊎-elim}
 use lib.Dec.{leb, eqb}
 use borrow.Author.Tests.{leb-true, leb-false, eq-eqb, ne-eqb}
-use Prim.Native.Nat.{ℕ, zero, suc, _+_, _*_, _-_, _≤_, _<_, max}
+use Prim.Native.Nat.{ℕ, zero, suc, _+_, _*_, _≤_, _<_, max}
 use native.Mathlib.Nat.{eq-or-lt-of-le, le-of-suc-le-suc, le-max-left, le-max-right, max-le, le-trans, not-suc-le-zero, max-eq-right}
 use native.Mathlib.Numerals.{add-one}
 use native.Mathlib.Omega.{arith}
 use Rattle.grid.specs.Fold.{sumTo, maxTo, every}
-use Rattle.grid.proofs.BoolLaws.{and-left, and-right, and-both, passes-or-fails, not-both}
+use Rattle.grid.proofs.BoolLaws.{and-left, and-right, and-both, passes-or-fails}
 
 -- a number below n + 1 is n or below n
 pub below-cases : {P : Type 0} {j n : ℕ} → j < suc n → (j ≡ n → P) → (j < n → P) → P

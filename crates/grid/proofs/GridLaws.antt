@@ -2,17 +2,17 @@
 use mathlib.Core.Path.{_≡_, refl, sym, ap, _∙_}
 use mathlib.Core.Bool.{Bool, true, false, cond, _&&_}
 use mathlib.Core.Logic.{_⊎_, inl, inr, ⊎-elim}
-use Prim.Native.Nat.{ℕ, zero, suc, _+_, _-_, _*_, _/_, _%_, _≤_, _<_}
-use native.Mathlib.Nat.{le-div-iff-mul-le, suc-mul, mul-le-mul-right, le-of-mul-le-mul-right, div-zero, div-add-mod', mod-lt, add-mul, one-mul}
+use Prim.Native.Nat.{ℕ, _+_, _-_, _*_, _/_, _%_, _≤_, _<_}
+use native.Mathlib.Nat.{le-div-iff-mul-le, suc-mul, mul-le-mul-right, div-zero, div-add-mod', mod-lt, add-mul, one-mul}
 use native.Mathlib.Omega.{arith}
 use lib.Dec.{leb}
-use borrow.Author.Tests.{leb-true, leb-false, le-leb, lt-leb}
+use borrow.Author.Tests.{leb-true, leb-false, le-leb}
 use Rattle.grid.specs.declared.Found.{Found}
 use Rattle.grid.specs.declared.Found.the-variants.{At, Nothing}
 use Rattle.grid.specs.First.{first}
 use Rattle.grid.specs.Grid.{Available, count, valueAt, leastOn}
 use Rattle.grid.proofs.BoolLaws.{passes-or-fails, not-both, fails, and-left, and-right, and-both}
-use Rattle.grid.proofs.FirstLaws.{FirstAt, first-is, first-none, first-at, first-nothing}
+use Rattle.grid.proofs.FirstLaws.{first-at, first-nothing}
 
 -- m steps are available exactly where they end at or below high
 pub count-within : (low high step m : ℕ) → 0 < step → m < count low high step → low + m * step ≤ high

@@ -8,7 +8,7 @@ use lib.Seq.{drop-drop, getD-drop}
 use Rattle.grid.proofs.FoldLaws.{every-at}
 use Rattle.text.specs.Pieces.{nameMost}
 use Rattle.text.specs.Names.{nameAtPlace, namesAt}
-use Rattle.print.specs.Write.{written, Wrote}
+use Rattle.print.specs.Write.{Wrote}
 use Rattle.print.specs.Card.{cardCount, lineMost, lineEnd, fieldsText, lineText, rowsText, placeRight, RowsFit, RowFits}
 use Rattle.print.proofs.FieldsLaws.{fields-short}
 use Rattle.print.proofs.PlaceLaws.{place-was}

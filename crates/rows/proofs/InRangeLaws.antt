@@ -1,20 +1,19 @@
 -- The tests 4 and 5 pass exactly the lists in range whose rows feed as section 2 says; what such a list's rows are.
 -- Assumes nothing.
-use mathlib.Core.Path.{_≡_, refl, sym, _∙_}
+use mathlib.Core.Path.{_≡_, refl}
 use mathlib.Core.Bool.{Bool, true, false, not, _&&_}
 use mathlib.Core.List.{List}
 use Prim.Native.Nat.{ℕ, _+_, _-_, _*_, _≤_, _<_}
 use native.Mathlib.Omega.{arith}
 use lib.Dec.{leb, ltb, eqb}
 use lib.ListN.{getD}
-use borrow.Author.Tests.{eqb-true, eqb-false, ltb-true, leb-true, leb-false, not-true, not-false, ne-eqb, eq-eqb, le-leb, lt-leb}
+use borrow.Author.Tests.{eqb-true, ltb-true, leb-true, not-false, ne-eqb, eq-eqb, le-leb}
 use Rattle.grid.specs.declared.Found.{Found}
 use Rattle.grid.specs.declared.Found.the-variants.{At, Nothing}
-use Rattle.grid.specs.First.{first}
-use Rattle.grid.proofs.BoolLaws.{and-left, and-right, fails, passes-or-fails}
-use Rattle.grid.proofs.FirstLaws.{first-none, first-nothing, first-at}
+use Rattle.grid.proofs.BoolLaws.{and-left, and-right}
+use Rattle.grid.proofs.FirstLaws.{first-none, first-nothing}
 use Rattle.rows.specs.declared.Tested.{Tested}
-use Rattle.rows.specs.declared.Tested.the-variants.{Passed, Refused}
+use Rattle.rows.specs.declared.Tested.the-variants.{Passed}
 use Rattle.rows.specs.Row.{rows, field, rowAt}
 use Rattle.rows.specs.Tests.{fieldRight, rowFault, faultAfter, rowAtFault, feedsRight, fedWrongly, fieldAnswer, treeAnswer, treeTest, rowsTest}
 use Rattle.rows.specs.InRange.{InRange, Feeds, Bounded}

@@ -8,18 +8,16 @@ use native.Mathlib.Nat.{mul-le-mul, mul-le-mul-left, mul-assoc, le-trans}
 use native.Mathlib.Omega.{arith}
 use lib.Dec.{leb, eqb}
 use borrow.Author.Tests.{le-leb, leb-true, eq-eqb, ne-eqb}
-use Rattle.grid.specs.Fold.{sumTo, maxTo, every}
-use Rattle.grid.specs.Grid.{leastOn}
-use Rattle.grid.proofs.BoolLaws.{passes-or-fails, not-both, implies, implied, same-test}
-use Rattle.grid.proofs.FoldLaws.{Attained, maxTo-attained, maxTo-bound, le-maxTo, sumTo-zero, sumTo-others, every-at, every-of}
+use Rattle.grid.specs.Fold.{maxTo}
+use Rattle.grid.proofs.BoolLaws.{passes-or-fails, implies, implied, same-test}
+use Rattle.grid.proofs.FoldLaws.{Attained, maxTo-attained, le-maxTo, sumTo-zero, sumTo-others, every-at, every-of}
 use Rattle.grid.proofs.GridLaws.{leastOn-same}
-use Rattle.rows.specs.declared.Row.{Row}
 use Rattle.rows.specs.Row.{rows, rowAt}
-use Rattle.rows.specs.InRange.{InRange, Bounded}
+use Rattle.rows.specs.InRange.{InRange}
 use Rattle.rows.proofs.InRangeLaws.{row-bounded}
-use Rattle.settle.specs.Conditions.{fed, eachFed, loadOf, othersLoad, returnsAfterSelfStart, clearOf, seesOwnZone, backsUp, withinDelays, gradedAbove, margin}
+use Rattle.settle.specs.Conditions.{fed, eachFed, loadOf, othersLoad, returnsAfterSelfStart, clearOf, seesOwnZone, backsUp, withinDelays, gradedAbove}
 use Rattle.settle.specs.Fed.{reach, clearance, shortfall, earliest, gathered, clearOfAll, backsUpAll, pickupBy, delayBy, settledBy}
-use Rattle.settle.specs.Settle.{meetsPickup, meetsDelay, outcomeOf, leastPickup, leastDelay, settled}
+use Rattle.settle.specs.Settle.{meetsPickup, meetsDelay, outcomeOf, settled}
 use Rattle.settle.proofs.PickupLaws.{current-volts}
 
 -- what holds for each fed row

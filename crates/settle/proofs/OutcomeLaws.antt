@@ -1,7 +1,7 @@
 -- The cutoff and a row's outcome, one law for each way that they end. Assumes nothing.
-use mathlib.Core.Path.{_≡_, refl, sym, ap, ap₂, _∙_}
+use mathlib.Core.Path.{_≡_, refl, sym, ap, _∙_}
 use mathlib.Core.Bool.{Bool, true, false, cond}
-use Prim.Native.Nat.{ℕ, _*_, _≤_, _<_}
+use Prim.Native.Nat.{ℕ, _*_, _≤_}
 use native.Mathlib.Nat.{mul-comm, le-trans}
 use native.Mathlib.Omega.{arith}
 use lib.Dec.{leb, eqb}
@@ -9,7 +9,6 @@ use borrow.Author.Tests.{eq-eqb, ne-eqb}
 use Rattle.grid.specs.declared.Found.{Found}
 use Rattle.grid.specs.declared.Found.the-variants.{At, Nothing}
 use Rattle.grid.specs.Round.{ceilDiv}
-use Rattle.grid.specs.Grid.{leastOn}
 use Rattle.grid.proofs.RoundLaws.{ceilDiv-leb}
 use Rattle.grid.proofs.GridLaws.{leastOn-same, leastOn-least}
 use Rattle.rows.specs.declared.Row.{Row}
@@ -18,11 +17,10 @@ use Rattle.settle.specs.declared.Cutoff.{Cutoff}
 use Rattle.settle.specs.declared.Cutoff.the-variants.{Fitted, NotFitted}
 use Rattle.settle.specs.declared.Fed.{Fed}
 use Rattle.settle.specs.declared.Outcome.{Outcome}
-use Rattle.settle.specs.declared.Settled.{Settled}
 use Rattle.settle.specs.declared.Settled.the-variants.{Set, NoPickup, NoDelay}
 use Rattle.settle.specs.Conditions.{staysClear, seesNear, margin}
 use Rattle.settle.specs.Fed.{pickupBy, delayBy, settledBy}
-use Rattle.settle.specs.Settle.{leastPickup, leastDelay, fitting, cutoffOf, printed, outcomeOf}
+use Rattle.settle.specs.Settle.{leastPickup, leastDelay, fitting, cutoffOf, outcomeOf}
 
 pub margin-1 : (d : ℕ) → d ≡ 1 → 300 ≡ margin d
 unfolding margin

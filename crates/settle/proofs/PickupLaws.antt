@@ -1,17 +1,16 @@
 -- A pickup and a delay judged by the four numbers: lower bounds rounded up, upper tests, and the least value between.
 -- Assumes nothing.
-use mathlib.Core.Path.{_≡_, refl, sym, ap, ap₂, _∙_}
+use mathlib.Core.Path.{_≡_, sym, ap, ap₂, _∙_}
 use mathlib.Core.Bool.{Bool, true, false, not, cond, _&&_, _||_}
 use Prim.Native.Nat.{ℕ, _+_, _-_, _*_, _≤_, _<_, max}
-use native.Mathlib.Nat.{mul-le-mul, mul-le-mul-left, mul-le-mul-right, mul-assoc, mul-left-comm, mul-pos, le-trans, lt-of-lt-of-le}
+use native.Mathlib.Nat.{mul-le-mul, mul-le-mul-left, mul-le-mul-right, mul-assoc, mul-left-comm, le-trans}
 use native.Mathlib.Omega.{arith}
 use lib.Dec.{leb, eqb}
-use borrow.Author.Tests.{le-leb, lt-leb, leb-true, eq-eqb, ne-eqb}
+use borrow.Author.Tests.{le-leb, lt-leb, leb-true}
 use Rattle.grid.specs.declared.Found.{Found}
 use Rattle.grid.specs.declared.Found.the-variants.{At, Nothing}
-use Rattle.grid.specs.Grid.{Available, leastOn}
 use Rattle.grid.specs.Round.{ceilDiv}
-use Rattle.grid.proofs.BoolLaws.{and-left, and-right, and-both, same-test}
+use Rattle.grid.proofs.BoolLaws.{and-left, and-right, and-both}
 use Rattle.grid.proofs.GridLaws.{capped, leastOn-capped, leastOn-same, leastOn-least}
 use Rattle.grid.proofs.RoundLaws.{ceilDiv-leb, max-leb}
 use Rattle.rows.specs.declared.Row.{Row}

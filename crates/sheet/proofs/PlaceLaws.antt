@@ -2,20 +2,17 @@
 -- the grammar gives the row. Assumes nothing.
 use mathlib.Core.Path.{_≡_, refl, sym, ap, ap₂, _∙_}
 use mathlib.Core.Bool.{Bool, true, false, cond, _&&_}
-use mathlib.Core.Logic.{_⊎_, inl, inr, ⊎-elim}
-use mathlib.Core.List.{List, [], _∷_, _++_, map}
-use Prim.Native.Nat.{ℕ, zero, suc, _+_, _-_, _*_, _≤_, _<_, min}
-use native.Mathlib.Nat.{add-assoc, suc-mul, not-suc-le-zero}
+use mathlib.Core.Logic.{⊎-elim}
+use mathlib.Core.List.{List, [], _∷_, map}
+use Prim.Native.Nat.{ℕ, zero, suc, _+_, _-_, _*_, _≤_, _<_}
+use native.Mathlib.Nat.{add-assoc}
 use native.Mathlib.Omega.{arith}
-use lib.Dec.{leb, eqb, ltb}
-use lib.ListN.{length, getD, take, drop, length-append, length-take, length-drop, drop-of-length-le}
+use lib.Dec.{eqb, ltb}
+use lib.ListN.{length, getD, take, drop, length-append, length-drop, drop-of-length-le}
 use lib.Seq.{drop-drop, length-take-le, take-take}
-use borrow.Author.Tests.{le-leb, eqb-true, ltb-true, ltb-false}
-use Rattle.grid.specs.Fold.{every}
-use Rattle.grid.proofs.BoolLaws.{and-left, and-right, and-both, passes-or-fails}
-use Rattle.grid.proofs.FoldLaws.{every-of}
+use borrow.Author.Tests.{eqb-true, ltb-true, ltb-false}
+use Rattle.grid.proofs.BoolLaws.{and-left, and-right, passes-or-fails}
 use Rattle.text.specs.declared.Class.the-variants.{InLine}
-use Rattle.text.specs.declared.Reading.{Reading}
 use Rattle.text.specs.declared.Reading.the-variants.{BadLine, Rows}
 use Rattle.text.specs.Bytes.{passes, run}
 use Rattle.text.specs.Grammar.{Row, rowOf, rowsOf}
@@ -23,7 +20,7 @@ use Rattle.text.specs.Line.{isComma, isNamed, isLine, numbersOf, nameStart, nam
 use Rattle.text.specs.Names.{nameAtPlace, namesAt}
 use Rattle.text.specs.Pieces.{digits, isNumber, isName, nameLength}
 use Rattle.text.specs.Text.{lines, lineLength, afterLine, nextIsLine, goodLines, linesRead, sizeRight, headed, rowLines, reading, rowsRead, allNumbers, allPlaces, rowNumbers, rowPlaces}
-use Rattle.text.proofs.GrammarNames.{NameNext, name-sound}
+use Rattle.text.proofs.GrammarNames.{name-sound}
 use Rattle.text.proofs.GrammarText.{cut-some}
 use Rattle.text.proofs.LineLaws.{numbers-long}
 use Rattle.text.proofs.RunLaws.{run-length}

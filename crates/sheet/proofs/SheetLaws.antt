@@ -1,32 +1,27 @@
 -- What is printed for a text is what the printers leave, one law for each way that the text goes. Assumes nothing.
 use mathlib.Core.Path.{_≡_, refl, sym, ap, ap₂, _∙_, subst}
-use mathlib.Core.Bool.{Bool, true, false, cond, _&&_}
-use mathlib.Core.List.{List, [], _∷_, _++_, map}
-use Prim.Native.Nat.{ℕ, zero, suc, _+_, _-_, _*_, _/_, _%_, _≤_, _<_, min}
-use native.Mathlib.Nat.{min-eq-left, not-suc-le-zero}
+use mathlib.Core.Bool.{true}
+use mathlib.Core.List.{List, _∷_, _++_}
+use Prim.Native.Nat.{ℕ, zero, suc, _+_, _-_, _*_, _/_, _≤_, _<_, min}
+use native.Mathlib.Nat.{min-eq-left}
 use native.Mathlib.Omega.{arith}
-use lib.Dec.{leb, eqb}
-use lib.ListN.{length, getD, take, drop, List·getD-append, length-append}
+use lib.ListN.{length, getD, take, drop, List·getD-append}
 use lib.Seq.{take-all, take-at, drop-append-le, length-take-le}
 use borrow.Author.Tests.{le-leb, lt-leb, eq-eqb, ne-eqb}
-use Rattle.grid.specs.Fold.{every}
 use Rattle.grid.proofs.BoolLaws.{and-both}
 use Rattle.grid.proofs.FoldLaws.{every-of}
-use Rattle.rows.specs.declared.Answer.{Answer}
 use Rattle.rows.specs.declared.Answer.the-variants.{Count}
 use Rattle.rows.specs.declared.Given.{Given}
 use Rattle.rows.specs.Answer.{givenBy}
 use Rattle.rows.proofs.TestLaws.{size-over}
-use Rattle.text.specs.declared.Reading.{Reading}
 use Rattle.text.specs.declared.Reading.the-variants.{BadLine, Rows}
-use Rattle.text.specs.Grammar.{Row, rowsOf}
 use Rattle.text.specs.Line.{fieldCount}
 use Rattle.text.specs.Names.{nameAtPlace, namesAt}
-use Rattle.text.specs.Text.{reading, readingNumber, readingPlace, rowsRead, rowNumbers, rowPlaces, over, blocksOver}
-use Rattle.print.specs.Card.{cardText, refusalText, placeRight, printable, cardPrinted, refusalPrinted, Printed}
+use Rattle.text.specs.Text.{reading, readingNumber, readingPlace, rowNumbers, rowPlaces, over, blocksOver}
+use Rattle.print.specs.Card.{cardText, placeRight, printable, cardPrinted, refusalPrinted, Printed}
 use Rattle.print.proofs.PrintLaws.{nothing-printed}
 use Rattle.whole.specs.Ready.{Gave}
-use Rattle.whole.specs.Whole.{Result, whole}
+use Rattle.whole.specs.Whole.{whole}
 use Rattle.whole.proofs.AnswerLaws.{answered-size}
 use Rattle.sheet.specs.Ready.{RowsReady}
 use Rattle.sheet.specs.Sheet.{namesOf, blankCard, givenText, readText, sheetText, sheetMost, sheetPrinted}

@@ -12,7 +12,7 @@ use Rattle.text.specs.declared.Reading.the-variants.{BadLine, Rows}
 use Rattle.text.specs.Grammar.{Row, rowsOf}
 use Rattle.text.specs.Text.{reading, readingNumber, readingPlace, rowNumbers}
 use Rattle.print.specs.Card.{cardText, refusalText}
-use Rattle.whole.specs.Whole.{Result, whole}
+use Rattle.whole.specs.Whole.{whole}
 
 -- the names of a text's rows, as they stand in it
 unfoldable pub namesOf : List ℕ → List (List ℕ)

@@ -5,10 +5,10 @@ use Prim.Native.Nat.{ℕ}
 use Rattle.text.specs.declared.Reading.the-variants.{Rows, BadLine}
 use Rattle.text.specs.Bytes.{digitByte, plainByte, bareByte, crlf, passes, run}
 use Rattle.text.specs.Header.{header}
-use Rattle.text.specs.Line.{isComma, isEnd, afterField, afterName, areFields, fieldsOf, isNamed, isLine, numbersOf, nameStart, nameSize}
+use Rattle.text.specs.Line.{isComma, isEnd, afterField, afterName, areFields, fieldsOf, isNamed, isLine, nameStart, nameSize}
 use Rattle.text.specs.Names.{nameAtPlace, namesAt}
-use Rattle.text.specs.Pieces.{digits, isNumber, decimal, numberOf, plainPart, bareEnd, nameEnd, isFound, placeFound, isName, nameLength}
-use Rattle.text.specs.Text.{onto, lines, lineLength, afterLine, nextIsLine, goodLines, linesRead, same, sizeRight, headed, rowLines, reading, allNumbers, allPlaces, rowNumbers, rowPlaces}
+use Rattle.text.specs.Pieces.{digits, isNumber, plainPart, bareEnd, nameEnd, isFound, placeFound, isName, nameLength}
+use Rattle.text.specs.Text.{onto, lines, lineLength, afterLine, nextIsLine, goodLines, linesRead, same, sizeRight, headed, rowLines, reading, allPlaces, rowPlaces}
 
 unfoldable pub first : List ℕ
 first =

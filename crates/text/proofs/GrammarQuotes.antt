@@ -13,7 +13,7 @@ use Rattle.grid.specs.declared.Found.the-variants.{At, Nothing}
 use Rattle.grid.proofs.BoolLaws.{and-right, passes-or-fails}
 use Rattle.text.specs.Bytes.{plainByte, bareByte}
 use Rattle.text.specs.Pieces.{plainPart, quotePart}
-use Rattle.text.specs.Grammar.{Body, empty, plain, doubled, quoted}
+use Rattle.text.specs.Grammar.{Body, empty, plain, doubled}
 
 pub impossible : {P : Type 0} {n : ℕ} → Nothing ≡ At n → P
 impossible e = absurd (let z : _≡_ {A = ℕ} 0 1 = cc in omega arith)

@@ -1,7 +1,7 @@
 -- The grammar theorem [01 §6]: the reading accepts exactly the texts that the grammar has, its rows are the grammar's rows, and a bad line
 -- that it names is the first that is none. Each part cites the laws of lines. Assumes nothing.
 use mathlib.Core.Path.{_≡_, refl, sym, ap, subst, _∙_}
-use mathlib.Core.Bool.{true, false, not}
+use mathlib.Core.Bool.{true, false}
 use mathlib.Core.Logic.{_⊎_, ⊎-elim}
 use mathlib.Core.List.{List, [], _∷_, _++_, map}
 use Prim.Native.Nat.{ℕ, _+_, _≤_, _<_}

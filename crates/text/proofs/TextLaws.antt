@@ -11,7 +11,6 @@ use Rattle.text.specs.declared.Reading.{Reading}
 use Rattle.text.specs.declared.Reading.the-variants.{BadLine}
 use Rattle.text.specs.Header.{header}
 use Rattle.text.specs.Line.{fieldCount}
-use Rattle.text.specs.Pieces.{moved}
 use Rattle.text.specs.Text.{textMost, lines, lineLength, afterLine, same, sizeRight, headed, rowLines, reading, rowsRead, rowNumbers, rowPlaces, roomFor, LinesTaken, TextTaken}
 use Rattle.text.proofs.BlockLaws.{kept-start}
 

@@ -1,37 +1,33 @@
 -- The loop over all rows: the rows below i are done, and what is left of the calculation is that of the rows from i on.
 -- Assumes nothing.
-use mathlib.Core.Path.{_≡_, refl, sym, ap, ap₂, _∙_, subst}
+use mathlib.Core.Path.{_≡_, refl, sym, ap, _∙_}
 use mathlib.Core.Bool.{Bool, true, false, cond, _&&_, _||_}
-use mathlib.Core.Logic.{_⊎_, inl, inr, ⊎-elim}
-use mathlib.Core.List.{List, [], _∷_, _++_}
-use Prim.Native.Nat.{ℕ, zero, suc, _+_, _-_, _*_, _≤_, _<_, max}
+use mathlib.Core.Logic.{⊎-elim}
+use mathlib.Core.List.{List, _++_}
+use Prim.Native.Nat.{ℕ, suc, _+_, _-_, _*_, _≤_, _<_}
 use native.Mathlib.Nat.{sub-zero}
 use native.Mathlib.Numerals.{add-one}
 use native.Mathlib.Omega.{arith}
 use lib.Dec.{ltb, eqb}
 use lib.ListN.{length, getD, set, take, drop, replicate, length-replicate, getD-replicate, List·getD-eq-default}
 use lib.Seq.{drop-cons, take-suc, set-at, append-snoc, length-take-le}
-use borrow.Author.Tests.{lt-ltb, le-ltb, ltb-true, ltb-false, eqb-true, eqb-false, eq-eqb, ne-eqb}
-use Rattle.grid.specs.Fold.{sumTo, maxTo}
+use borrow.Author.Tests.{lt-ltb, le-ltb, ltb-true, ltb-false, eqb-true, eqb-false}
+use Rattle.grid.specs.Fold.{maxTo}
 use Rattle.grid.proofs.BoolLaws.{passes-or-fails, not-both, same-test}
 use Rattle.grid.proofs.FoldLaws.{sumTo-zero, maxTo-bound}
-use Rattle.rows.specs.declared.Row.{Row}
 use Rattle.rows.specs.declared.Answer.{Answer}
-use Rattle.rows.specs.declared.Answer.the-variants.{Pickup, Delay}
 use Rattle.rows.specs.declared.Tested.{Tested}
 use Rattle.rows.specs.declared.Tested.the-variants.{Passed, Refused}
 use Rattle.rows.specs.Row.{rows, rowAt}
-use Rattle.rows.specs.InRange.{InRange, Feeds}
 use Rattle.rows.proofs.InRangeLaws.{passed-in-range, passed-feeds}
-use Rattle.settle.specs.declared.Outcome.{Outcome}
 use Rattle.settle.specs.declared.Settled.{Settled}
 use Rattle.settle.specs.declared.Settled.the-variants.{Set, NoPickup, NoDelay}
 use Rattle.settle.specs.Fed.{settledBy}
 use Rattle.settle.specs.Settle.{settled}
 use Rattle.work.specs.Card.{pickupIn, delayIn, putRow}
 use Rattle.work.specs.Ready.{WorkReady, Stepped}
-use Rattle.work.specs.Sums.{fedAt, pushed, Step, stepBy, step}
-use Rattle.work.specs.WorkOut.{Worked, finished, refused, onSettled, workOut, upFrom}
+use Rattle.work.specs.Sums.{fedAt, stepBy, step}
+use Rattle.work.specs.WorkOut.{refused, onSettled, workOut, upFrom}
 use Rattle.work.proofs.CardLaws.{same-fed, putRow-length}
 use Rattle.work.proofs.StepLaws.{pushed-length}
 use Rattle.work.specs.Working.{Working, gatheredBy}

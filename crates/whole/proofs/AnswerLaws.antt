@@ -1,10 +1,10 @@
 -- The whole calculation's answer, one law for each way that it ends. Assumes nothing.
 use mathlib.Core.Path.{_≡_, refl, sym, ap, _∙_}
 use mathlib.Core.List.{List, _++_}
-use Prim.Native.Nat.{ℕ, _+_, _*_, _/_, _≤_, _<_}
+use Prim.Native.Nat.{ℕ, _*_, _≤_}
 use native.Mathlib.Nat.{mul-comm}
 use native.Mathlib.Omega.{arith}
-use lib.ListN.{length, getD, take, drop, replicate}
+use lib.ListN.{length, getD, take, drop}
 use Rattle.rows.specs.declared.Answer.{Answer}
 use Rattle.rows.specs.declared.Answer.the-variants.{Done}
 use Rattle.rows.specs.declared.Tested.{Tested}
@@ -13,11 +13,10 @@ use Rattle.rows.specs.Row.{rows}
 use Rattle.rows.specs.Tests.{sizeTest, rowsTest}
 use Rattle.rows.proofs.InRangeLaws.{passed-in-range, passed-feeds}
 use Rattle.rows.proofs.TestLaws.{SizeRight, size-passed}
-use Rattle.work.specs.WorkOut.{Worked, finished, refused}
+use Rattle.work.specs.WorkOut.{Worked}
 use Rattle.whole.specs.Ready.{AllReady, Answered}
-use Rattle.whole.specs.Whole.{Result, ending, after, calculation, workedAs, whole}
+use Rattle.whole.specs.Whole.{ending, after, calculation, workedAs, whole}
 use Rattle.whole.proofs.FrameLaws.{framed, calculation-frame}
-use Rattle.whole.proofs.AllLaws.{clear-reads}
 
 module _ (l c : List ℕ) where
   pub answered-size : (t : Tested) (a : Answer) → t ≡ sizeTest (length l) (length c) → t ≡ Refused a → Answered (whole l c) a c

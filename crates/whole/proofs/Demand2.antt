@@ -8,31 +8,28 @@
 --     past-the-card-kept, refused-card-kept      what stands in the lent card otherwise
 -- `whole` is the definition that the public entry's contract cites (specs/Whole.antt). Assumes nothing.
 use mathlib.Core.Path.{_≡_, refl, sym, ap, _∙_}
-use mathlib.Core.Bool.{Bool, true, false, cond}
-use mathlib.Core.Logic.{_↔_, _⊎_, inl, inr, ⊎-elim}
-use mathlib.Core.List.{List, _++_}
-use Prim.Native.Nat.{ℕ, _+_, _*_, _/_, _≤_, _<_}
+use mathlib.Core.Bool.{true, false}
+use mathlib.Core.Logic.{_↔_, ⊎-elim}
+use mathlib.Core.List.{List}
+use Prim.Native.Nat.{ℕ, _*_, _≤_, _<_}
 use native.Mathlib.Omega.{arith}
 use lib.ListN.{length, drop}
 use Rattle.grid.specs.declared.Found.{Found}
 use Rattle.grid.specs.declared.Found.the-variants.{At, Nothing}
-use Rattle.grid.specs.Grid.{Available, leastOn}
 use Rattle.grid.proofs.BoolLaws.{passes-or-fails}
 use Rattle.grid.proofs.GridLaws.{Least, leastOn-least, leastOn-is}
-use Rattle.rows.specs.declared.Answer.{Answer}
 use Rattle.rows.specs.declared.Answer.the-variants.{Done}
 use Rattle.rows.specs.declared.Row.{Row}
 use Rattle.rows.specs.declared.Tested.{Tested}
 use Rattle.rows.specs.declared.Tested.the-variants.{Passed, Refused}
 use Rattle.rows.specs.Row.{rows, rowAt}
-use Rattle.rows.specs.InRange.{InRange, Feeds, Bounded}
+use Rattle.rows.specs.InRange.{InRange, Feeds}
 use Rattle.rows.specs.Tests.{sizeTest, rowsTest}
 use Rattle.rows.proofs.InRangeLaws.{in-range-passes}
 use Rattle.rows.proofs.TestLaws.{size-passed}
-use Rattle.settle.specs.declared.Cutoff.{Cutoff}
 use Rattle.settle.specs.declared.Cutoff.the-variants.{Fitted, NotFitted}
 use Rattle.settle.specs.Conditions.{staysClear, seesNear}
-use Rattle.settle.specs.Settle.{leastPickup, fitting, cutoffOf, printed, settled, meetsPickup, meetsDelay}
+use Rattle.settle.specs.Settle.{leastPickup, fitting, cutoffOf, printed, settled}
 use Rattle.settle.proofs.OutcomeLaws.{outcome-set}
 use Rattle.work.specs.Card.{pickupIn, delayIn, cutoffIn}
 use Rattle.work.specs.WorkOut.{Worked, finished, refused}

@@ -2,12 +2,12 @@
 -- on the card before it, and leaves what stands past three numbers a row. Assumes nothing.
 use mathlib.Core.Path.{_≡_, refl, sym, ap, ap₂, _∙_}
 use mathlib.Core.Bool.{Bool, true, false, cond}
-use mathlib.Core.Logic.{_⊎_, inl, inr, ⊎-elim}
-use mathlib.Core.List.{List, [], _∷_, _++_}
-use Prim.Native.Nat.{ℕ, zero, suc, _+_, _-_, _*_, _≤_, _<_}
-use native.Mathlib.Nat.{add-zero, zero-add, sub-zero}
+use mathlib.Core.Logic.{⊎-elim}
+use mathlib.Core.List.{List, _++_}
+use Prim.Native.Nat.{ℕ, zero, suc, _+_, _*_, _≤_, _<_}
+use native.Mathlib.Nat.{zero-add}
 use native.Mathlib.Omega.{arith}
-use lib.Dec.{eqb, leb, ltb}
+use lib.Dec.{eqb, ltb}
 use borrow.Author.Tests.{eqb-true, eqb-false, ltb-true, ltb-false}
 use lib.ListN.{length, getD, take, drop, take-append-drop}
 use lib.Seq.{ext-getD, length-take-le, getD-take}
@@ -25,7 +25,7 @@ use Rattle.settle.specs.Conditions.{fed, loadOf}
 use Rattle.settle.specs.Fed.{clearance, shortfall, earliest, gathered, settledBy}
 use Rattle.settle.specs.Settle.{settled}
 use Rattle.settle.proofs.FedLaws.{settled-by}
-use Rattle.work.specs.Card.{pickupIn, delayIn, cutoffIn, putRow}
+use Rattle.work.specs.Card.{pickupIn, delayIn, putRow}
 use Rattle.work.specs.WorkOut.{Worked, finished, refused, onSettled, workOut, upFrom}
 use Rattle.work.proofs.CardLaws.{same-fed, putRow-length, putRow-other, putRow-pickup, putRow-delay, putRow-cutoff, putRow-drop}
 use Rattle.whole.specs.Whole.{calculation}

@@ -1,9 +1,9 @@
 -- Where some settings meet every condition, the calculation finishes, each row no higher and no later than they are:
 -- row by row, what meets the conditions above the given settings meets them above the least ones below. Assumes nothing.
-use mathlib.Core.Path.{_≡_, refl, sym, ap, ap₂, _∙_}
-use mathlib.Core.Bool.{Bool, true, false}
+use mathlib.Core.Path.{_≡_, refl}
+use mathlib.Core.Bool.{Bool, true}
 use mathlib.Core.List.{List}
-use Prim.Native.Nat.{ℕ, zero, suc, _+_, _-_, _*_, _≤_, _<_}
+use Prim.Native.Nat.{ℕ, zero, suc, _+_, _*_, _≤_, _<_}
 use native.Mathlib.Omega.{arith}
 use lib.ListN.{length}
 use Rattle.grid.specs.declared.Found.{Found}
@@ -12,16 +12,14 @@ use Rattle.grid.specs.Grid.{Available, leastOn}
 use Rattle.grid.proofs.BoolLaws.{not-both}
 use Rattle.grid.proofs.FoldLaws.{below-cases}
 use Rattle.grid.proofs.GridLaws.{leastOn-least, leastOn-nothing}
-use Rattle.rows.specs.declared.Row.{Row}
 use Rattle.rows.specs.Row.{rows, rowAt}
 use Rattle.rows.specs.InRange.{InRange, Feeds}
 use Rattle.rows.proofs.InRangeLaws.{row-bounded}
 use Rattle.settle.specs.declared.Outcome.{Outcome}
-use Rattle.settle.specs.declared.Settled.{Settled}
 use Rattle.settle.specs.declared.Settled.the-variants.{Set}
-use Rattle.settle.specs.Settle.{meetsPickup, meetsDelay, leastPickup, leastDelay, cutoffOf, outcomeOf, settled}
+use Rattle.settle.specs.Settle.{meetsPickup, meetsDelay, cutoffOf, outcomeOf, settled}
 use Rattle.work.specs.Card.{pickupIn, delayIn, putRow}
-use Rattle.work.specs.WorkOut.{Worked, finished, refused, onSettled, workOut, upFrom}
+use Rattle.work.specs.WorkOut.{Worked, finished, onSettled, workOut, upFrom}
 use Rattle.work.proofs.CardLaws.{putRow-length, putRow-pickup, putRow-delay, putRow-pickup-other, putRow-delay-other}
 use Rattle.whole.specs.Meets.{Meets}
 use Rattle.whole.specs.Whole.{calculation}

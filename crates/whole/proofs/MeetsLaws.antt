@@ -1,25 +1,22 @@
 -- Settings that meet every condition pass the tests of each row, and settings that pass them row by row meet every
 -- condition. Assumes nothing.
-use mathlib.Core.Path.{_≡_, refl, sym, ap, ap₂, _∙_}
-use mathlib.Core.Bool.{Bool, true, false, _&&_}
+use mathlib.Core.Path.{_≡_}
+use mathlib.Core.Bool.{Bool, true, _&&_}
 use mathlib.Core.List.{List}
 use Prim.Native.Nat.{ℕ, _+_, _-_, _*_, _≤_, _<_}
-use native.Mathlib.Nat.{le-trans, mul-le-mul-left, mul-le-mul-right}
+use native.Mathlib.Nat.{mul-le-mul-right}
 use native.Mathlib.Omega.{arith}
 use lib.Dec.{leb}
 use borrow.Author.Tests.{leb-true, le-leb}
-use Rattle.grid.specs.declared.Found.{Found}
-use Rattle.grid.specs.declared.Found.the-variants.{At, Nothing}
 use Rattle.grid.specs.Grid.{Available}
 use Rattle.grid.proofs.BoolLaws.{and-left, and-right, and-both}
 use Rattle.grid.proofs.GridLaws.{Least, leastOn-least}
 use Rattle.rows.specs.declared.Row.{Row}
 use Rattle.rows.specs.Row.{rows, rowAt}
-use Rattle.rows.specs.InRange.{InRange, Feeds}
+use Rattle.rows.specs.InRange.{InRange}
 use Rattle.rows.proofs.InRangeLaws.{row-bounded}
-use Rattle.settle.specs.declared.Outcome.{Outcome}
 use Rattle.settle.specs.Conditions.{fed, eachFed, othersLoad, returnsAfterSelfStart, clearOf, seesOwnZone, backsUp, withinDelays, gradedAbove, margin}
-use Rattle.settle.specs.Settle.{meetsPickup, meetsDelay, leastPickup, leastDelay, outcomeOf, settled}
+use Rattle.settle.specs.Settle.{meetsPickup, meetsDelay, leastPickup, leastDelay, settled}
 use Rattle.settle.proofs.FedLaws.{each-fed-at, each-fed-of}
 use Rattle.settle.proofs.OutcomeLaws.{OutcomeIs, outcome-set}
 use Rattle.work.specs.Card.{pickupIn, delayIn}

@@ -1,30 +1,26 @@
 -- A calculation that ends in a refusal: which row it names, and why. Assumes nothing.
-use mathlib.Core.Path.{_≡_, refl, sym, ap, _∙_}
-use mathlib.Core.Bool.{Bool, true, false}
+use mathlib.Core.Path.{_≡_, refl}
+use mathlib.Core.Bool.{false}
 use mathlib.Core.Logic.{_⊎_, inl, inr}
 use mathlib.Core.List.{List}
 use Prim.Native.Nat.{ℕ, zero, suc, _+_, _*_, _≤_, _<_}
 use native.Mathlib.Omega.{arith}
 use lib.ListN.{length}
-use borrow.Author.Tests.{leb-true}
-use Rattle.grid.specs.declared.Found.the-variants.{At, Nothing}
 use Rattle.grid.specs.Grid.{Available}
-use Rattle.grid.proofs.BoolLaws.{fails, not-both, and-left}
+use Rattle.grid.proofs.BoolLaws.{fails, not-both}
 use Rattle.grid.proofs.GridLaws.{leastOn-nothing}
 use Rattle.rows.specs.declared.Answer.{Answer}
 use Rattle.rows.specs.declared.Answer.the-variants.{Pickup, Delay}
-use Rattle.rows.specs.declared.Row.{Row}
 use Rattle.rows.specs.Row.{rows, rowAt}
 use Rattle.rows.specs.InRange.{InRange, Feeds}
 use Rattle.rows.proofs.InRangeLaws.{row-bounded}
 use Rattle.settle.specs.declared.Outcome.{Outcome}
 use Rattle.settle.specs.declared.Settled.{Settled}
 use Rattle.settle.specs.declared.Settled.the-variants.{Set, NoPickup, NoDelay}
-use Rattle.settle.specs.Conditions.{eachFed, withinDelays, gradedAbove}
 use Rattle.settle.specs.Settle.{meetsPickup, meetsDelay, leastPickup, leastDelay, settled}
 use Rattle.settle.proofs.OutcomeLaws.{outcome-no-pickup, outcome-no-delay}
 use Rattle.work.specs.Card.{pickupIn, delayIn, putRow}
-use Rattle.work.specs.WorkOut.{Worked, finished, refused, onSettled, workOut, upFrom}
+use Rattle.work.specs.WorkOut.{refused, onSettled, workOut, upFrom}
 use Rattle.work.proofs.CardLaws.{putRow-length}
 use Rattle.whole.specs.Whole.{calculation}
 use Rattle.whole.proofs.MeetsLaws.{delay-met, delay-available}

@@ -1,20 +1,18 @@
 -- A finished calculation leaves every row at its own least settings on that very card. Assumes nothing.
-use mathlib.Core.Path.{_≡_, refl, sym, ap, _∙_}
-use mathlib.Core.Bool.{Bool, true, false}
-use mathlib.Core.Logic.{_⊎_, inl, inr, ⊎-elim}
-use mathlib.Core.List.{List, [], _∷_}
-use Prim.Native.Nat.{ℕ, zero, suc, _+_, _-_, _*_, _≤_, _<_}
+use mathlib.Core.Path.{_≡_, refl, sym, _∙_}
+use mathlib.Core.List.{List}
+use Prim.Native.Nat.{ℕ, zero, suc, _+_, _*_, _≤_, _<_}
 use native.Mathlib.Omega.{arith}
-use lib.ListN.{length, getD}
+use lib.ListN.{length}
 use Rattle.grid.proofs.FoldLaws.{below-cases}
-use Rattle.rows.specs.Row.{rows, rowAt}
+use Rattle.rows.specs.Row.{rows}
 use Rattle.rows.specs.InRange.{InRange, Feeds}
 use Rattle.settle.specs.declared.Outcome.{Outcome}
 use Rattle.settle.specs.declared.Settled.{Settled}
 use Rattle.settle.specs.declared.Settled.the-variants.{Set, NoPickup, NoDelay}
 use Rattle.settle.specs.Settle.{settled, printed}
 use Rattle.work.specs.Card.{pickupIn, delayIn, cutoffIn, putRow}
-use Rattle.work.specs.WorkOut.{Worked, finished, refused, onSettled, workOut, upFrom}
+use Rattle.work.specs.WorkOut.{finished, onSettled, workOut, upFrom}
 use Rattle.work.proofs.CardLaws.{putRow-length, putRow-other, putRow-pickup, putRow-delay, putRow-cutoff}
 use Rattle.whole.specs.Whole.{calculation}
 use Rattle.whole.proofs.FrameLaws.{Agree, settled-agree}

@@ -2,24 +2,22 @@
 use mathlib.Core.Path.{_≡_, refl, sym, ap, ap₂, _∙_}
 use mathlib.Core.Bool.{Bool, true, false, cond}
 use mathlib.Core.List.{List}
-use Prim.Native.Nat.{ℕ, _+_, _-_, _*_, _≤_}
+use Prim.Native.Nat.{ℕ, _+_, _-_}
 use lib.Dec.{eqb}
 use lib.ListN.{length}
 use borrow.Author.Tests.{eq-eqb, ne-eqb}
 use Rattle.rows.specs.declared.Row.{Row}
 use Rattle.rows.specs.declared.Answer.the-variants.{Pickup, Delay}
-use Rattle.rows.specs.declared.Tested.{Tested}
 use Rattle.rows.specs.declared.Tested.the-variants.{Passed, Refused}
 use Rattle.rows.specs.Row.{rowAt}
-use Rattle.rows.specs.InRange.{Bounded}
 use Rattle.settle.specs.declared.Fed.{Fed}
 use Rattle.settle.specs.declared.Outcome.{Outcome}
 use Rattle.settle.specs.declared.Settled.{Settled}
 use Rattle.settle.specs.declared.Settled.the-variants.{Set, NoPickup, NoDelay}
-use Rattle.settle.specs.Fed.{asked, settledBy, FedBounded}
+use Rattle.settle.specs.Fed.{asked, settledBy}
 use Rattle.work.specs.Card.{putRow}
 use Rattle.work.specs.Ready.{Stepped}
-use Rattle.work.specs.Sums.{fedAt, putFed, joined, pushed, Step, stepBy, step}
+use Rattle.work.specs.Sums.{fedAt, putFed, joined, pushed, stepBy, step}
 use Rattle.work.proofs.CardLaws.{putFed-length}
 
 module _ (r : Row) (p d : ℕ) (s : List ℕ) where

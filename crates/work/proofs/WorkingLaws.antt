@@ -1,27 +1,25 @@
 -- While rows are worked out, the sums hold for each row what its fed rows that are done ask of it. So a row whose fed
 -- rows are all done is settled by the sums as section 3 says, and its step keeps the sums true. Assumes nothing.
-use mathlib.Core.Path.{_≡_, refl, sym, ap, ap₂, _∙_, subst}
-use mathlib.Core.Bool.{Bool, true, false, not, cond, _&&_, _||_}
-use mathlib.Core.Logic.{_⊎_, inl, inr, ⊎-elim}
+use mathlib.Core.Path.{_≡_, refl, sym, ap, _∙_, subst}
+use mathlib.Core.Bool.{Bool, true, false, cond, _&&_, _||_}
+use mathlib.Core.Logic.{⊎-elim}
 use mathlib.Core.List.{List}
-use Prim.Native.Nat.{ℕ, _+_, _-_, _*_, _/_, _≤_, _<_, max}
+use Prim.Native.Nat.{ℕ, _+_, _-_, _*_, _≤_, _<_, max}
 use native.Mathlib.Nat.{le-trans, mul-le-mul-right, add-zero, max-zero}
 use native.Mathlib.Omega.{arith}
 use lib.Dec.{eqb}
 use lib.ListN.{length}
-use borrow.Author.Tests.{eq-eqb, ne-eqb, eqb-true, eqb-false}
-use Rattle.grid.specs.Fold.{sumTo, maxTo}
+use borrow.Author.Tests.{ne-eqb, eqb-true, eqb-false}
 use Rattle.grid.proofs.BoolLaws.{passes-or-fails, not-both, and-left}
 use Rattle.grid.proofs.FoldLaws.{sumTo-bound, maxTo-bound, sumTo-same, maxTo-same, sum-next, max-next}
 use Rattle.rows.specs.declared.Row.{Row}
-use Rattle.rows.specs.Row.{rows, field, rowAt}
-use Rattle.rows.specs.InRange.{InRange, Feeds}
+use Rattle.rows.specs.Row.{rows, rowAt}
 use Rattle.rows.proofs.InRangeLaws.{row-bounded, feeder-above, feeder-of-last}
 use Rattle.settle.specs.declared.Fed.{Fed}
 use Rattle.settle.specs.declared.Outcome.{Outcome}
 use Rattle.settle.specs.declared.Settled.the-variants.{Set}
-use Rattle.settle.specs.Conditions.{fed, loadOf, margin}
-use Rattle.settle.specs.Fed.{reach, clearance, shortfall, earliest, asked, gathered, settledBy, FedBounded}
+use Rattle.settle.specs.Conditions.{fed, loadOf}
+use Rattle.settle.specs.Fed.{reach, clearance, shortfall, earliest, asked, settledBy, FedBounded}
 use Rattle.settle.specs.Settle.{settled}
 use Rattle.settle.proofs.FedLaws.{settled-by}
 use Rattle.settle.proofs.OutcomeLaws.{set-bounded, margin-to}
@@ -30,7 +28,7 @@ use Rattle.work.specs.Card.{pickupIn, delayIn, putRow}
 use Rattle.work.specs.Ready.{WorkReady}
 use Rattle.work.specs.Sums.{fedAt, putFed, joined, pushed}
 use Rattle.work.specs.Working.{Working, gatheredBy}
-use Rattle.work.proofs.CardLaws.{same-fed, putRow-length, putRow-pickup, putRow-delay, putRow-pickup-other, putRow-delay-other, putFed-length, putFed-same, putFed-other}
+use Rattle.work.proofs.CardLaws.{same-fed, putRow-length, putRow-pickup, putRow-delay, putRow-pickup-other, putRow-delay-other, putFed-same, putFed-other}
 use Rattle.work.proofs.StepLaws.{pushed-source, pushed-feeder, pushed-length}
 
 -- a number that counts only sometimes is at most what it is when it counts

@@ -3,7 +3,7 @@ use Prim.Native.Nat.{ℕ}
 use borrow.Author.Needs.{needs}
 use mathlib.Core.Path.{_≡_, sym, _∙_}
 use Rattle.study.specs.declared.Quantity.{Quantity}
-use Rattle.surfpocket.specs.Studies.{refused, studied, studyOf}
+use Rattle.surfpocket.specs.Studies.{refused, studyOf}
 use Rattle.surfpocket.specs.declared.InUnit.{InUnit}
 use Rattle.surfpocket.specs.declared.InUnit.the-variants.{Known, Unknown}
 use Rattle.surfpocket.specs.declared.SurfpocketStudy.{SurfpocketStudy}
