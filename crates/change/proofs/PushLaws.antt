@@ -57,4 +57,4 @@ module _ (l : List ℕ) (done : ℕ → Bool) (c s : List ℕ) (w : Working l do
   push-next new done′ next =
       subst (λ (x : List ℕ). Working l done′ x (pushed (rowAt l i) (pickupIn c i) (delayIn c i) s))
       (row-stands c i found refl refl refl)
-      (work-next l done c s w i h new done′ next found (pickup-to , delay-to))
+      (work-next l done c s w i h new done′ next found (pickup-to, delay-to))
