@@ -18,7 +18,9 @@ const ROUNDS: usize = 101;
 const NO_CUTOFF: u64 = 100_000_001;
 
 pub fn replacements() {
-    println!("shape  row  tests ns  path ns  together ns  Rust afresh ns  together/Rust  path/Rust");
+    println!(
+        "shape  row  tests ns  path ns  together ns  Rust afresh ns  together/Rust  path/Rust"
+    );
     for shape in [Shape::Chain, Shape::Tree] {
         let (list, card) = accepted(shape);
         for place in [1, ROWS / 2, ROWS] {
@@ -50,7 +52,8 @@ fn measure(list: &[u64], card: &[u64], place: u64) -> [f64; 3] {
     let (mut list, mut card, mut out) = (list.to_vec(), card.to_vec(), card.to_vec());
     let mut times = [vec![], vec![], vec![]];
     for _ in 0..ROUNDS {
-        times[0].push(round(|| boundary::replace(&mut list, &mut refused, place, &row).number, CARD));
+        times[0]
+            .push(round(|| boundary::replace(&mut list, &mut refused, place, &row).number, CARD));
         times[1].push(round(|| boundary::replace(&mut list, &mut card, place, &row).number, 0));
         times[2].push(round(|| fast::whole(&list, &mut out).number, 0));
     }

@@ -60,9 +60,7 @@ fn answered(given: SurfpocketAnswer) -> Answer {
 pub fn whole(list: &[u64], card: &mut [u64]) -> Answer {
     // SAFETY: both slices are valid for their lengths, and the function is
     // proved to read and write nothing else.
-    answered(unsafe {
-        surfpocket_whole(list.as_ptr(), list.len(), card.as_mut_ptr(), card.len())
-    })
+    answered(unsafe { surfpocket_whole(list.as_ptr(), list.len(), card.as_mut_ptr(), card.len()) })
 }
 
 pub fn replace(list: &mut [u64], card: &mut [u64], place: u64, row: &[u64]) -> Answer {

@@ -1,18 +1,20 @@
 //! Replacements, one by one and in series beside the ledger [01 §4].
 
 use crate::boundary;
-use crate::lists::name_of;
-use crate::run::{Found, Group, Kind, Seen};
+use crate::lists::{name_of, row_count, ACCEPTED_ROWS};
+use crate::run::{Found, Group, Kind, Score, Seen};
 use second::answer::*;
 use second::generate::*;
 use second::replace::{replace, Ledger};
-use second::row::{CARD_NUMBERS, FIELDS};
+use second::row::{CARD_NUMBERS, FIELDS, MOST_CURRENT, MOST_DELAY};
 use second::whole::whole;
 
 const NUMBERS: Group = Group {
     name: "numbers given back by replacements",
     wanted: || {
-        [DONE, COUNT, ROOM, FIELD, TREE, PICKUP, DELAY, CARD, EDIT].map(|number| (number, 0)).to_vec()
+        [DONE, COUNT, ROOM, FIELD, TREE, PICKUP, DELAY, CARD, EDIT]
+            .map(|number| (number, 0))
+            .to_vec()
     },
     label: |item| name_of(item.0).to_string(),
 };
@@ -24,12 +26,30 @@ const IN_SERIES: Group = Group {
     label: |item| if item.0 == 0 { "done" } else { "refused" }.to_string(),
 };
 
-pub const GROUPS: [Group; 2] = [NUMBERS, IN_SERIES];
+/// Of the lists that a series starts from.
+const ROWS: Group = Group { name: "rows of lists in series", ..ACCEPTED_ROWS };
 
-pub const KINDS: [Kind; 2] = [
+/// On cards in range that no calculation of the list gives.
+const ON_FOREIGN: Group = Group {
+    name: "replacements on foreign cards",
+    wanted: || [DONE, FIELD, TREE, PICKUP, DELAY, EDIT].map(|number| (number, 0)).to_vec(),
+    label: |item| name_of(item.0).to_string(),
+};
+
+pub const GROUPS: [Group; 4] = [NUMBERS, IN_SERIES, ROWS, ON_FOREIGN];
+
+pub const KINDS: [Kind; 4] = [
     Kind { name: "replacements on any list and card", cases: 40_000, case: one },
     Kind { name: "series beside the ledger", cases: 20_000, case: course },
+    Kind { name: "long series beside the ledger", cases: 200, case: long_course },
+    Kind { name: "series on foreign cards", cases: 5_000, case: foreign },
 ];
+
+/// At least a third of the replacements in series must be refused.
+pub fn check_refused(score: &mut Score, seen: &Seen) {
+    let [done, refused] = [0, 1].map(|item| seen.times(&IN_SERIES, (item, 0)));
+    score.count(done <= 2 * refused, &format!("{refused} of {} in series refused", done + refused));
+}
 
 /// Any list with any card, the card's own numbers read off the path.
 fn one(_: u64, seed: u64, seen: &mut Seen) -> Found {
@@ -55,7 +75,8 @@ fn accepted(seed: u64) -> (Vec<u64>, Vec<u64>, Vec<u64>) {
     let mut rng = Rng::new(seed);
     loop {
         let made = list(rng.any());
-        let start = lent_card(CARD_NUMBERS * made.len() / FIELDS + rng.below(4) as usize, rng.any());
+        let start =
+            lent_card(CARD_NUMBERS * made.len() / FIELDS + rng.below(4) as usize, rng.any());
         let mut card = start.clone();
         if whole(&made, &mut card) == Answer::DONE {
             return (made, start, card);
@@ -63,12 +84,21 @@ fn accepted(seed: u64) -> (Vec<u64>, Vec<u64>, Vec<u64>) {
     }
 }
 
+fn course(_: u64, seed: u64, seen: &mut Seen) -> Found {
+    beside_ledger(seed, 3 + (seed % 10) as usize, seen)
+}
+
+fn long_course(_: u64, seed: u64, seen: &mut Seen) -> Found {
+    beside_ledger(seed, 300, seen)
+}
+
 /// Every answer is the ledger's; after the series so is the list, and the card
 /// is what the whole calculation of that list leaves in the card of the start.
-fn course(_: u64, seed: u64, seen: &mut Seen) -> Found {
+fn beside_ledger(seed: u64, length: usize, seen: &mut Seen) -> Found {
     let (mut list, start, mut card) = accepted(seed);
+    seen.note(&ROWS, row_count(&list));
     let mut ledger = Ledger::new(&list);
-    for (step, change) in series(&list.clone(), 3 + (seed % 10) as usize, seed).iter().enumerate() {
+    for (step, change) in series(&list.clone(), length, seed).iter().enumerate() {
         let answer = boundary::replace(&mut list, &mut card, change.place, &change.row);
         let expected = ledger.feed(change.place, &change.row);
         if answer != expected {
@@ -81,6 +111,32 @@ fn course(_: u64, seed: u64, seen: &mut Seen) -> Found {
     let whole_again = whole(ledger.list(), &mut afresh);
     if whole_again != Answer::DONE || list != ledger.list() || card != afresh {
         return Err(format!("list or card differ after series {seed}"));
+    }
+    Ok(())
+}
+
+/// After each replacement the answer, the list and the card are the second program's.
+fn foreign(_: u64, seed: u64, seen: &mut Seen) -> Found {
+    let (mut list, _, mut card) = accepted(seed);
+    let mut rng = Rng::new(!seed);
+    let end = CARD_NUMBERS * list.len() / FIELDS;
+    for set in card[..end].chunks_exact_mut(CARD_NUMBERS) {
+        if rng.chance(30) {
+            set[0] = rng.between(1.max(set[0] / 2), MOST_CURRENT.min(set[0] * 2));
+            set[1] = rng.between(set[1] / 2, MOST_DELAY.min(set[1] * 2));
+        }
+    }
+    let (mut list2, mut card2) = (list.clone(), card.clone());
+    for (step, change) in series(&list.clone(), 12, seed).iter().enumerate() {
+        let answer = boundary::replace(&mut list, &mut card, change.place, &change.row);
+        let expected = replace(&mut list2, &mut card2, change.place, &change.row);
+        if answer != expected || list != list2 || card != card2 {
+            return Err(format!(
+                "{answer:?}, not {expected:?}, or the buffers differ: step {step}, seed {seed}"
+            ));
+        }
+        note(answer, seen);
+        seen.note(&ON_FOREIGN, (answer.number, 0));
     }
     Ok(())
 }

@@ -2,8 +2,8 @@
 //! second program.
 
 pub mod boundary;
-pub mod changes;
 pub mod bounded_texts;
+pub mod changes;
 pub mod competing;
 pub mod lists;
 pub mod run;

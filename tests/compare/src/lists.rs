@@ -97,6 +97,13 @@ pub fn same(lent: &Lent, seen: &mut Seen) -> Result<Answer, String> {
     Ok(answer)
 }
 
+/// The item of ACCEPTED_ROWS that the list's rows belong to.
+pub fn row_count(list: &[u64]) -> Item {
+    let rows = (list.len() / FIELDS) as u64;
+    let counts = ROW_COUNTS.into_iter().find(|&(least, most)| least <= rows && rows <= most);
+    counts.expect("1 to 256 rows")
+}
+
 fn note(list: &[u64], answer: Answer, seen: &mut Seen) {
     seen.compared += 1;
     seen.note(&NUMBERS, (answer.number, 0));
@@ -105,9 +112,7 @@ fn note(list: &[u64], answer: Answer, seen: &mut Seen) {
     }
     if answer == Answer::DONE {
         seen.accepted += 1;
-        let rows = (list.len() / FIELDS) as u64;
-        let counts = ROW_COUNTS.into_iter().find(|&(least, most)| least <= rows && rows <= most);
-        seen.note(&ACCEPTED_ROWS, counts.expect("1 to 256 rows"));
+        seen.note(&ACCEPTED_ROWS, row_count(list));
         let one = list.chunks(FIELDS).all(|row| row[3] == list[3]);
         seen.note(&ACCEPTED_VOLTS, (if one { 1 } else { 2 }, 0));
     }

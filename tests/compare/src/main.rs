@@ -47,6 +47,7 @@ fn compare_all(seed: u64, times: u64) -> ExitCode {
     score.check(&competing::PAIRS, &whole);
     score.run(&changes::KINDS, seed, times, &mut change);
     changes::GROUPS.iter().for_each(|group| score.check(group, &change));
+    changes::check_refused(&mut score, &change);
     score.run(&studies::KINDS, seed, times, &mut study);
     studies::GROUPS.iter().for_each(|group| score.check(group, &study));
     score.run(&texts::KINDS, seed, times, &mut text);

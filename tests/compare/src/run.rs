@@ -49,7 +49,7 @@ impl Seen {
         }
     }
 
-    fn times(&self, group: &Group, item: Item) -> u64 {
+    pub fn times(&self, group: &Group, item: Item) -> u64 {
         self.items.get(&(group.name, item)).copied().unwrap_or(0)
     }
 }
