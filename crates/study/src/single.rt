@@ -106,7 +106,7 @@ fn rounded(f: Fraction, to: Rounding) -> u64
 }
 
 // A single times a scale, rounded to whole mA. The scale is one of 1 to 100,000,000, as the rated current is.
-pub fn whole_current(x: f32, scale: u64, to: Rounding) -> Current
+pub(crate) fn whole_current(x: f32, scale: u64, to: Rounding) -> Current
     requires { ⌜ T (allowed scale) ⌝ }
     ensures { λ r. ⌜ r ≡ currentOf to x scale ⌝ }
 {
