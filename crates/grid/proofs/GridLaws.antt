@@ -2,8 +2,8 @@
 use mathlib.Core.Path.{_≡_, refl, sym, ap, _∙_}
 use mathlib.Core.Bool.{Bool, true, false, cond, _&&_}
 use mathlib.Core.Logic.{_⊎_, inl, inr, ⊎-elim}
-use Prim.Native.Nat.{ℕ, _+_, _-_, _*_, _/_, _%_, _≤_, _<_}
-use native.Mathlib.Nat.{le-div-iff-mul-le, suc-mul, mul-le-mul-right, div-zero, div-add-mod', mod-lt, add-mul, one-mul}
+use Prim.Native.Nat.{ℕ, _+_, _-_, _*_, _/_, _%_, _≤_, _<_, max}
+use native.Mathlib.Nat.{le-div-iff-mul-le, suc-mul, mul-le-mul-right, div-zero, div-add-mod', mod-lt, add-mul, one-mul, le-max-left, le-max-right, max-le}
 use native.Mathlib.Omega.{arith}
 use lib.Dec.{leb}
 use borrow.Author.Tests.{leb-true, leb-false, le-leb}
@@ -140,56 +140,60 @@ leastOn-capped low high step p ok up b same down = by-cases (leastOn low high st
         fails (ok y)
         (λ t. not-both (and-left (leb b y) (up y) (sym (same y a) ∙ t)) (leastOn-nothing low high step p (leb b) e y a)))
 
--- The least value at or above a bound, by where the bound stands.
-module _ (low high step b : ℕ) (p : 0 < step) where
-  pub leastOn-from-low : low ≤ high → b ≤ low → leastOn low high step (leb b) ≡ At low
-  leastOn-from-low h l =
-      leastOn-is low high step p (leb b) low
-      (record {
-        available = record { steps = 0; on-grid = rw (native.Mathlib.Nat.zero-mul, native.Mathlib.Nat.add-zero); within = h };
-        passes = le-leb b low l;
-        least = λ y a t. omega (arith, a .on-grid);
-      })
+-- The least value at or above a bound stands less than a step past `from`, the greater of low and the bound.
+module _ (low high step b from : ℕ) (p : 0 < step) (q : from ≡ max low b) where
+  from-low : low ≤ from
+  from-low = rw q (le-max-left low b)
 
-  pub leastOn-past-high : high < low ⊎ high < b → leastOn low high step (leb b) ≡ Nothing
+  above : (y : ℕ) → Available low high step y → leb b y ≡ true → from ≤ y
+  above y a t = rw q (max-le (omega (arith, a .on-grid)) (leb-true b y t))
+
+  pub leastOn-past-high : high < from → leastOn low high step (leb b) ≡ Nothing
   leastOn-past-high h =
-      leastOn-none low high step p (leb b)
-      (λ y a.
-      fails (leb b y)
-      (λ t.
-      let g = leb-true b y t in
-      ⊎-elim (λ l. omega (arith, a .on-grid, a .within)) (λ l. omega (arith, a .within)) h))
+      leastOn-none low high step p (leb b) (λ y a. fails (leb b y) (λ t. let g = above y a t in omega (arith, a .within)))
 
-  -- x stands on the grid, at or above the bound and less than a step past it
-  module _ (m x : ℕ) (on : x ≡ low + m * step) (up : b ≤ x) (near : x < b + step) where
-    nearest : (y : ℕ) → Available low high step y → leb b y ≡ true → x ≤ y
+  -- u leads from there to a value, by less than a step
+  pub record Next (u : ℕ) : Type 0 where
+    pub steps : ℕ
+    pub on-grid : from + u ≡ low + steps * step
+    pub near : u < step
+
+  pub next-here : (u : ℕ) → (from - low) % step ≡ 0 → u ≡ 0 → Next u
+  next-here u z e =
+      record { steps = (from - low) / step; on-grid = omega (arith, from-low, div-add-mod' (from - low) step); near = omega arith }
+
+  pub next-past : (u : ℕ) → ((from - low) % step ≡ 0 → ⊥) → u ≡ step - (from - low) % step → Next u
+  next-past u z e =
+      record {
+        steps = (from - low) / step + 1;
+        on-grid = rw (add-mul, one-mul) (omega (arith, from-low, div-add-mod' (from - low) step, mod-lt (from - low) p));
+        near = omega arith;
+      }
+
+  module _ (u : ℕ) (n : Next u) where
+    nearest : (y : ℕ) → Available low high step y → leb b y ≡ true → from + u ≤ y
     nearest y a t =
-        let g = leb-true b y t in
+        let g = above y a t in
         ⊎-elim
-        (λ (l : m ≤ a .steps). let k = mul-le-mul-right step l in omega (arith, a .on-grid))
-        (λ (l : a .steps < m).
+        (λ (l : n .steps ≤ a .steps). let k = mul-le-mul-right step l in omega (arith, a .on-grid, n .on-grid))
+        (λ (l : a .steps < n .steps).
         let k = mul-le-mul-right step l in
-        absurd (omega (arith, suc-mul (a .steps) step, a .on-grid)))
-        (le-or-lt m (a .steps))
+        absurd (omega (arith, suc-mul (a .steps) step, a .on-grid, n .on-grid, n .near)))
+        (le-or-lt (n .steps) (a .steps))
 
-    pub leastOn-nearest : x ≤ high → leastOn low high step (leb b) ≡ At x
-    leastOn-nearest h =
-        leastOn-is low high step p (leb b) x
-        (record { available = record { steps = m; on-grid = on; within = h }; passes = le-leb b x up; least = nearest })
+    pub leastOn-next : from + u ≤ high → leastOn low high step (leb b) ≡ At (from + u)
+    leastOn-next h =
+        leastOn-is low high step p (leb b) (from + u)
+        (record {
+          available = record { steps = n .steps; on-grid = n .on-grid; within = h };
+          passes = le-leb b (from + u) (let k : b ≤ from = rw q (le-max-right low b) in omega arith);
+          least = nearest;
+        })
 
-    pub leastOn-nearest-past : high < x → leastOn low high step (leb b) ≡ Nothing
-    leastOn-nearest-past h =
+    pub leastOn-next-past : high < from + u → leastOn low high step (leb b) ≡ Nothing
+    leastOn-next-past h =
         leastOn-none low high step p (leb b)
         (λ y a. fails (leb b y) (λ t. let g = nearest y a t in omega (arith, a .within)))
-
--- the bound stands on the grid, or a remainder past it
-pub on-the-grid : (low b step : ℕ) → low ≤ b → (b - low) % step ≡ 0 → b ≡ low + (b - low) / step * step
-on-the-grid low b step l z = omega (arith, div-add-mod' (b - low) step)
-
-pub next-on-the-grid :
-    (low b step : ℕ) → low ≤ b → 0 < step → b + (step - (b - low) % step) ≡ low + ((b - low) / step + 1) * step
-next-on-the-grid low b step l p =
-    rw (add-mul, one-mul) (omega (arith, div-add-mod' (b - low) step, mod-lt (b - low) p))
 
 -- tests that agree on the available values find the same
 pub leastOn-same :

@@ -36,23 +36,15 @@ pub fn least_on(low: u64, high: u64, step: u64, bound: u64) -> Found
     if step == 0 {
         return Found::Nothing;
     }
-    if high < low {
+    let from = greater(low, bound);
+    if high < from {
         return Found::Nothing;
     }
-    if bound <= low {
-        return Found::At(low);
-    }
-    if high < bound {
-        return Found::Nothing;
-    }
-    let past = (bound - low) % step;
-    if past == 0 {
-        return Found::At(bound);
-    }
-    let up = step - past;
-    if high - bound < up {
+    let past = (from - low) % step;
+    let up = if past == 0 { 0 } else { step - past };
+    if high - from < up {
         Found::Nothing
     } else {
-        Found::At(bound + up)
+        Found::At(from + up)
     }
 }

@@ -1,5 +1,5 @@
 -- Laws of the tests 2 to 5, one for each way that a test ends. Assumes nothing.
-use mathlib.Core.Path.{_≡_, refl}
+use mathlib.Core.Path.{_≡_, refl, sym, _∙_}
 use mathlib.Core.Bool.{Bool, true, false, not, cond, _&&_}
 use mathlib.Core.List.{List}
 use Prim.Native.Nat.{ℕ, _+_, _-_, _*_, _/_, _%_, _≤_, _<_}
@@ -7,13 +7,15 @@ use lib.Dec.{leb, eqb}
 use native.Mathlib.Omega.{arith}
 use Rattle.grid.proofs.BoolLaws.{and-left, and-right}
 use borrow.Author.Tests.{eqb-true, leb-true, le-leb, lt-leb, lt-ltb, le-ltb, eq-eqb, ne-eqb}
+use Rattle.grid.specs.declared.Found.{Found}
 use Rattle.grid.specs.declared.Found.the-variants.{At, Nothing}
 use Rattle.grid.specs.First.{first}
+use Rattle.rows.specs.declared.Answer.{Answer}
 use Rattle.rows.specs.declared.Answer.the-variants.{Count, Room, Field, Tree}
 use Rattle.rows.specs.declared.Tested.{Tested}
 use Rattle.rows.specs.declared.Tested.the-variants.{Passed, Refused}
 use Rattle.rows.specs.Row.{rows, field}
-use Rattle.rows.specs.Tests.{fieldRight, faultAfter, rowFault, rowAtFault, feedsRight, fedWrongly, sizeTest, fieldAnswer, rowsTest, treeAnswer, treeTest}
+use Rattle.rows.specs.Tests.{fieldRight, faultAfter, rowFault, rowAtFault, feedsRight, fedWrongly, sizeTest, fieldAnswer, fieldsTest, rowsTest, treeAnswer, treeTest}
 
 -- the tests that the loops search with
 abbrev pub fieldWrong : List ℕ → ℕ → ℕ → Bool
@@ -39,13 +41,30 @@ module _ (l : List ℕ) where
   pub row-right : (i f : ℕ) → f ≡ rowFault l i → f ≡ 0 → rowAtFault l i ≡ false
   row-right i f q h = rw (← q, eq-eqb f 0 h)
 
-  pub fields-found : (i f : ℕ) → f ≡ rowFault l i → first (rowAtFault l) 0 (rows l) ≡ At i → Refused (Field (i + 1) f) ≡ rowsTest l
-  unfolding rowsTest fieldAnswer
+  pub fields-found : (i f : ℕ) → f ≡ rowFault l i → first (rowAtFault l) 0 (rows l) ≡ At i → Refused (Field (i + 1) f) ≡ fieldsTest l
+  unfolding fieldsTest fieldAnswer
   fields-found i f q e = rw (e, q)
 
-  pub fields-none : (t : Tested) → t ≡ treeTest l → first (rowAtFault l) 0 (rows l) ≡ Nothing → t ≡ rowsTest l
-  unfolding rowsTest fieldAnswer
-  fields-none t q e = rw (e, q)
+  pub fields-none : first (rowAtFault l) 0 (rows l) ≡ Nothing → Passed ≡ fieldsTest l
+  unfolding fieldsTest fieldAnswer
+  fields-none e = rw e
+
+  -- a field at fault is named before the feeding is looked at
+  pub rows-refused : (t : Tested) (a : Answer) → t ≡ fieldsTest l → t ≡ Refused a → Refused a ≡ rowsTest l
+  unfolding rowsTest fieldsTest fieldAnswer
+  rows-refused t a q e = by-cases (first (rowAtFault l) 0 (rows l)) (sym q ∙ e)
+    where
+      by-cases : (f : Found) → fieldAnswer l Passed f ≡ Refused a → Refused a ≡ fieldAnswer l (treeTest l) f
+      by-cases (At i) g = sym g
+      by-cases Nothing g = absurd (let z : _≡_ {A = ℕ} 0 1 = cc in omega arith)
+
+  pub rows-tree : (t u : Tested) → t ≡ fieldsTest l → t ≡ Passed → u ≡ treeTest l → u ≡ rowsTest l
+  unfolding rowsTest fieldsTest fieldAnswer
+  rows-tree t u q e v = by-cases (first (rowAtFault l) 0 (rows l)) (sym q ∙ e)
+    where
+      by-cases : (f : Found) → fieldAnswer l Passed f ≡ Passed → u ≡ fieldAnswer l (treeTest l) f
+      by-cases (At i) g = absurd (let z : _≡_ {A = ℕ} 0 1 = cc in omega arith)
+      by-cases Nothing g = v
 
   pub tree-found : (i : ℕ) → first (fedWrongly l) 0 (rows l) ≡ At i → Refused (Tree (i + 1)) ≡ treeTest l
   unfolding treeTest treeAnswer

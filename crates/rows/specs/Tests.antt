@@ -82,5 +82,8 @@ unfoldable pub fieldAnswer : List ℕ → Tested → Found → Tested
 fieldAnswer l next (At i) = Refused (Field (i + 1) (rowFault l i))
 fieldAnswer l next Nothing = next
 
+unfoldable pub fieldsTest : List ℕ → Tested
+fieldsTest l = fieldAnswer l Passed (first (rowAtFault l) 0 (rows l))
+
 unfoldable pub rowsTest : List ℕ → Tested
 rowsTest l = fieldAnswer l (treeTest l) (first (rowAtFault l) 0 (rows l))

@@ -7,7 +7,7 @@ ghost use lib.ListN.{length};
 ghost use Rattle.grid.specs.First.{first};
 ghost use Rattle.rows.specs.Answer.{givenBy};
 ghost use Rattle.rows.specs.Row.{field, rowAt, rows};
-ghost use Rattle.rows.specs.Tests.{bounds, fieldRight, rowFault, rowAtFault, feedsRight, fedWrongly, sizeTest, treeTest, rowsTest};
+ghost use Rattle.rows.specs.Tests.{bounds, fieldRight, rowFault, feedsRight, fedWrongly, sizeTest, treeTest, fieldsTest, rowsTest};
 
 pub const FIELDS: usize = 18;
 
@@ -220,20 +220,21 @@ fn row_fault(list: &[u64], table: &[u64; 36], i: usize) -> u64
     if low <= high { 0 } else { 12 }
 }
 
-// The first row with a field at fault.
-fn first_row_at_fault(list: &[u64]) -> Found
-    ensures { λ r. ⌜ r ≡ first (rowAtFault (now (list .entry))) 0 (rows (now (list .entry))) ⌝ }
+// 4 FIELD over all rows ascending.
+fn test_fields(list: &[u64]) -> Tested
+    ensures { λ r. ⌜ r ≡ fieldsTest (now (list .entry)) ⌝ }
 {
     let n = list.len() / FIELDS;
     let table = BOUNDS;
     let mut i = 0;
     while i < n {
-        if row_fault(list, &table, i) != 0 {
-            return Found::At(i as u64);
+        let fault = row_fault(list, &table, i);
+        if fault != 0 {
+            return Tested::Refused(Answer::Field((i as u64) + 1, fault));
         }
         i += 1;
     }
-    Found::Nothing
+    Tested::Passed
 }
 
 // A row but the last is fed by a row with a greater number that is no motor; the last by the source.
@@ -284,13 +285,11 @@ fn test_tree(list: &[u64]) -> Tested
 pub fn test_rows(list: &[u64]) -> Tested
     ensures { λ r. ⌜ r ≡ rowsTest (now (list .entry)) ⌝ }
 {
-    match first_row_at_fault(list) {
-        Found::At(i) => {
-            let table = BOUNDS;
-            Tested::Refused(Answer::Field(i + 1, row_fault(list, &table, i as usize)))
-        }
-        Found::Nothing => test_tree(list),
+    let fields = test_fields(list);
+    if let Tested::Refused(a) = fields {
+        return Tested::Refused(a);
     }
+    test_tree(list)
 }
 
 // 2 COUNT, then 3 ROOM, for a list and a card of so many numbers.

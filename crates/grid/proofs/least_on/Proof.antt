@@ -1,28 +1,23 @@
--- `grid::least_on` meets its contract: each return is a law of `leastOn` by where the bound stands: at or below low, past high, on the grid, or between two values.
+-- `grid::least_on` meets its contract: from the greater of low and the bound, the next value of the grid.
 -- Assumes nothing.
 use native.Mathlib.Omega.{arith}
 use borrow.Author.Needs.{needs}
 use mathlib.Core.Path.{sym}
-use mathlib.Core.Logic.{inl, inr}
-use Prim.Native.Nat.{_+_, _-_, _/_}
-use native.Mathlib.Nat.{pos-of-ne-zero, mod-lt}
-use Rattle.grid.proofs.GridLaws.{leastOn-no-step, leastOn-past-high, leastOn-from-low, leastOn-nearest, leastOn-nearest-past, on-the-grid, next-on-the-grid}
+use mathlib.Core.Logic.{⊎-elim}
+use native.Mathlib.Nat.{pos-of-ne-zero, mod-lt, le-of-lt}
+use Rattle.grid.proofs.GridLaws.{leastOn-no-step, leastOn-past-high, next-here, next-past, leastOn-next, leastOn-next-past}
 use Rattle.grid.proofs.least_on.Statement.{statement}
 use Rattle.grid.proofs.least_on.Tie as tie
 
 returns : tie.Need-returns
 returns c = sym (leastOn-no-step _ _ _ _ (c .if1 .taken))
 
+greater-requires : tie.Need-greater-requires
+greater-requires c κs = search needs
+
 returns-2 : tie.Need-returns-2
-returns-2 c = sym (leastOn-past-high _ _ _ _ (pos-of-ne-zero (c .before .if1 .left)) (inl (c .if2 .taken)))
-
-returns-3 : tie.Need-returns-3
-returns-3 c =
-    sym (leastOn-from-low _ _ _ _ (pos-of-ne-zero (c .before .before .if1 .left)) (c .before .if2 .left) (c .if3 .taken))
-
-returns-4 : tie.Need-returns-4
-returns-4 c =
-    sym (leastOn-past-high _ _ _ _ (pos-of-ne-zero (c .before .before .before .if1 .left)) (inr (c .if4 .taken)))
+returns-2 c =
+    sym (leastOn-past-high _ _ _ _ _ (pos-of-ne-zero (c .before .before .if1 .left)) (c .before .greater .ensures) (c .if2 .taken))
 
 sub-past : tie.Need-sub-past
 sub-past c = search needs
@@ -30,51 +25,36 @@ sub-past c = search needs
 rem-past : tie.Need-rem-past
 rem-past c = search needs
 
-returns-5 : tie.Need-returns-5
-returns-5 c =
-    let a = c .before .before .before .before .before .args in
-    let p = pos-of-ne-zero (c .before .before .before .before .if1 .left) in
-    sym
-    (leastOn-nearest (a .low) (a .high) (a .step) (a .bound) p ((a .bound - a .low) / a .step) (a .bound)
-    (on-the-grid (a .low) (a .bound) (a .step) (omega arith) (c .if5 .taken)) (omega arith) (omega (arith, p)) (omega arith))
-
 sub-up : tie.Need-sub-up
-sub-up c =
-    omega (arith, mod-lt (c .before .before .before .before .before .args .bound - c .before .before .before .before .before .args .low) (pos-of-ne-zero (c .before .before .before .before .if1 .left)))
+sub-up c = le-of-lt (mod-lt _ (pos-of-ne-zero (c .before .before .before .if1 .left)))
 
-add-t10 : tie.Need-add-t10
-add-t10 c = search needs
+add-t12 : tie.Need-add-t12
+add-t12 c = search needs
 
-returns-6 : tie.Need-returns-6
-returns-6 c =
-    let a = c .before .before .before .before .before .before .args in
+returns-3 : tie.Need-returns-3
+returns-3 c =
+    let p = pos-of-ne-zero (c .before .before .before .before .if1 .left) in
+    let q = c .before .before .before .greater .ensures in
+    let n = ⊎-elim (λ w. next-here _ _ _ _ _ p q _ (w .0 .taken) (w .1)) (λ w. next-past _ _ _ _ _ p q _ (w .0 .left) (w .1)) (c .before .if3 .came) in
+    sym (leastOn-next-past _ _ _ _ _ p q _ n (omega arith))
+
+returns-4 : tie.Need-returns-4
+returns-4 c =
     let p = pos-of-ne-zero (c .before .before .before .before .before .if1 .left) in
-    let r = mod-lt (a .bound - a .low) p in
-    sym
-    (leastOn-nearest-past (a .low) (a .high) (a .step) (a .bound) p ((a .bound - a .low) / a .step + 1) _
-    (next-on-the-grid (a .low) (a .bound) (a .step) (omega arith) p) (omega arith) (omega arith) (omega arith))
-
-returns-7 : tie.Need-returns-7
-returns-7 c =
-    let a = c .before .before .before .before .before .before .args in
-    let p = pos-of-ne-zero (c .before .before .before .before .before .if1 .left) in
-    let r = mod-lt (a .bound - a .low) p in
-    sym
-    (leastOn-nearest (a .low) (a .high) (a .step) (a .bound) p ((a .bound - a .low) / a .step + 1) _
-    (next-on-the-grid (a .low) (a .bound) (a .step) (omega arith) p) (omega arith) (omega arith) (omega arith))
+    let q = c .before .before .before .before .greater .ensures in
+    let n = ⊎-elim (λ w. next-here _ _ _ _ _ p q _ (w .0 .taken) (w .1)) (λ w. next-past _ _ _ _ _ p q _ (w .0 .left) (w .1)) (c .before .before .if3 .came) in
+    sym (leastOn-next _ _ _ _ _ p q _ n (omega arith))
 
 pub least-on-spec : {M : Type 1} → statement M
 least-on-spec =
     tie.close
     (tie.spec
     returns
+    greater-requires
     returns-2
-    returns-3
-    returns-4
     sub-past
     rem-past
-    returns-5
     sub-up
-    add-t10
-    returns-6
-    returns-7)
+    add-t12
+    returns-3
+    returns-4)

@@ -1,13 +1,13 @@
--- `rows::first_row_at_fault` meets its contract: the loop has passed rows without fault, so the first at fault is the first of all.
+-- `rows::test_fields` meets its contract: the loop has passed rows without fault, so the first at fault is the first of all.
 -- Assumes nothing.
 use native.Mathlib.Omega.{arith}
-use mathlib.Core.Path.{refl, sym}
+use mathlib.Core.Path.{refl}
 use Prim.Native.Nat.{_-_}
 use Rattle.grid.proofs.FirstLaws.{Passed, passed-none, passed-more, passed-found, passed-all}
 use Rattle.rows.specs.Tests.{rowAtFault}
-use Rattle.rows.proofs.TestLaws.{row-wrong, row-right}
-use Rattle.rows.proofs.first_row_at_fault.Statement.{statement}
-use Rattle.rows.proofs.first_row_at_fault.Tie as tie
+use Rattle.rows.proofs.TestLaws.{row-wrong, row-right, fields-found, fields-none}
+use Rattle.rows.proofs.test_fields.Statement.{statement}
+use Rattle.rows.proofs.test_fields.Tie as tie
 
 abbrev Inv-loop : tie.InvT-loop
 Inv-loop list n table i₀ i = Passed (rowAtFault list) n i
@@ -21,9 +21,13 @@ loop-holds c = passed-none _ _
 row-fault-requires : tie.Need-row-fault-requires Inv-loop μ-loop
 row-fault-requires c κs = (omega arith, refl)
 
+add-t11 : tie.Need-add-t11 Inv-loop μ-loop
+add-t11 c = omega arith
+
 returns : tie.Need-returns Inv-loop μ-loop
 returns c =
-    sym (passed-found _ (c .before .before .before .before .loop .inv) (c .before .before .before .loop-test .taken) (row-wrong _ _ _ (c .before .row-fault .ensures) (c .if1 .taken)))
+    let q = c .before .row-fault .ensures in
+    fields-found _ _ _ q (passed-found _ (c .before .before .before .before .loop .inv) (c .before .before .before .loop-test .taken) (row-wrong _ _ _ q (c .if1 .taken)))
 
 add-i : tie.Need-add-i Inv-loop μ-loop
 add-i c = omega arith
@@ -36,16 +40,17 @@ loop-again c =
     passed-more _ (c .before .before .before .before .loop .inv) (c .before .before .before .loop-test .taken) (row-right _ _ _ (c .before .row-fault .ensures) (omega arith))
 
 returns-2 : tie.Need-returns-2 Inv-loop μ-loop
-returns-2 c = sym (passed-all _ (c .before .loop .inv) (c .loop-test .left))
+returns-2 c = fields-none _ (passed-all _ (c .before .loop .inv) (c .loop-test .left))
 
-pub first-row-at-fault-spec : {M : Type 1} → statement M
-first-row-at-fault-spec =
+pub test-fields-spec : {M : Type 1} → statement M
+test-fields-spec =
     tie.close
     (tie.spec
     Inv-loop
     μ-loop
     loop-holds
     row-fault-requires
+    add-t11
     returns
     add-i
     loop-less
