@@ -12,10 +12,10 @@ use Rattle.grid.specs.declared.Found.the-variants.{At, Nothing}
 use Rattle.grid.proofs.GridLaws.{leastOn-least}
 use Rattle.rows.specs.declared.Answer.{Answer}
 use Rattle.rows.specs.declared.Answer.the-variants.{Done}
-use Rattle.rows.specs.declared.Row.{Row}
+use Rattle.row.specs.declared.Row.{Row}
 use Rattle.rows.specs.declared.Tested.{Tested}
 use Rattle.rows.specs.declared.Tested.the-variants.{Passed, Refused}
-use Rattle.rows.specs.Row.{rows, rowAt}
+use Rattle.row.specs.Row.{rows, rowAt}
 use Rattle.rows.specs.InRange.{InRange, Bounded}
 use Rattle.rows.specs.Tests.{sizeTest, rowsTest}
 use Rattle.rows.proofs.InRangeLaws.{passed-in-range, passed-feeds, row-bounded, field-from}
@@ -31,7 +31,7 @@ use Rattle.whole.proofs.MeetsLaws.{pickup-least, delay-least}
 use Rattle.whole.proofs.SettledLaws.{RowSettled, calculation-settled}
 use Rattle.change.specs.Replace.{onPassed}
 use Rattle.change.proofs.RefusalLaws.{Later, refuses-done, size-refuses, rows-later, work-later, passed-refused, passed-finished}
-use Rattle.change.proofs.TestLaws.{CardFits}
+use Rattle.path.proofs.CardTestLaws.{CardFits}
 
 -- the whole calculation, its size being right
 pub whole-as : (l c : List ℕ) → sizeTest (length l) (length c) ≡ Passed → whole l c ≡ ending c (onPassed (rowsTest l) (calculation l c))

@@ -18,12 +18,12 @@ use Rattle.grid.proofs.BoolLaws.{fails}
 use Rattle.rows.specs.declared.Answer.{Answer}
 use Rattle.rows.specs.declared.Answer.the-variants.{Done, Edit}
 use Rattle.rows.specs.declared.Tested.the-variants.{Passed}
-use Rattle.rows.specs.Row.{rows}
+use Rattle.row.specs.Row.{rows}
 use Rattle.rows.specs.Tests.{sizeTest}
 use Rattle.work.specs.Card.{pickupIn, delayIn, cutoffIn}
 use Rattle.work.specs.WorkOut.{Worked, finished, refused}
 use Rattle.whole.specs.Whole.{Result, ending, whole}
-use Rattle.change.specs.Path.{pathOf, onPath}
+use Rattle.path.specs.Path.{pathOf, onPath}
 use Rattle.change.specs.Replace.{putList, editRight, reworked, Replaced, outcome, replaced}
 use Rattle.change.specs.Series.{Request, replacements, entered, Ledger, ledger, putDone}
 use Rattle.change.proofs.AcceptLaws.{accepts}

@@ -10,8 +10,8 @@ use lib.Dec.{eqb, ltb}
 use lib.ListN.{length}
 use borrow.Author.Tests.{eqb-true, eqb-false, ltb-true, ltb-false}
 use Rattle.grid.proofs.BoolLaws.{passes-or-fails}
-use Rattle.rows.specs.Row.{rows, field, rowAt}
-use Rattle.change.specs.Path.{pathFrom, pathOf, onPath, has}
+use Rattle.row.specs.Row.{rows, field, rowAt}
+use Rattle.path.specs.Path.{pathFrom, pathOf, onPath, has}
 use Rattle.change.specs.Ready.{PutReady}
 use Rattle.change.specs.Replace.{putList}
 use Rattle.change.proofs.PutLaws.{putList-length, putList-before, putList-within, putList-after}

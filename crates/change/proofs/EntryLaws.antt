@@ -13,10 +13,12 @@ use Rattle.rows.specs.Answer.{givenBy}
 use Rattle.rows.specs.Tests.{sizeTest, rowsTest}
 use Rattle.rows.proofs.TestLaws.{size-passed}
 use Rattle.work.specs.WorkOut.{Worked, finished, refused, workOut}
-use Rattle.change.specs.Path.{pathOf}
-use Rattle.change.specs.Ready.{PutReady, PathReady, ReworkReady, ExchangeReady, testedOf, cardOf, Reworked, exchanged, Exchanged, Gave}
-use Rattle.change.specs.Replace.{putList, editTest, cardTest, onPassed, reworked, outcome, Replaced, replaced}
-use Rattle.change.proofs.EndLaws.{reworked-refused}
+use Rattle.path.specs.Path.{pathOf}
+use Rattle.change.specs.Ready.{PutReady, ExchangeReady, exchanged, Exchanged, Gave}
+use Rattle.path.specs.Ready.{PathReady, ReworkReady, testedOf, cardOf, Reworked}
+use Rattle.change.specs.Replace.{putList, editTest, onPassed, reworked, outcome, Replaced, replaced}
+use Rattle.path.specs.CardTest.{cardTest}
+use Rattle.path.proofs.EndLaws.{reworked-refused}
 use Rattle.change.proofs.PutLaws.{put-back}
 use Rattle.change.proofs.TestLaws.{EditFits, edit-passed}
 

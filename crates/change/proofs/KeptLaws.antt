@@ -12,7 +12,7 @@ use Rattle.rows.specs.declared.Answer.{Answer}
 use Rattle.rows.specs.declared.Answer.the-variants.{Done}
 use Rattle.rows.specs.declared.Tested.the-variants.{Passed}
 use Rattle.rows.specs.Answer.{givenBy}
-use Rattle.rows.specs.Row.{rows}
+use Rattle.row.specs.Row.{rows}
 use Rattle.rows.specs.Tests.{sizeTest, rowsTest}
 use Rattle.rows.proofs.InRangeLaws.{passed-feeds}
 use Rattle.settle.specs.declared.Outcome.{Outcome}
@@ -22,10 +22,10 @@ use Rattle.settle.specs.Settle.{settled}
 use Rattle.work.specs.Card.{pickupIn, delayIn, putRow}
 use Rattle.work.specs.WorkOut.{Worked, finished, refused, onSettled, workOut}
 use Rattle.work.proofs.CardLaws.{putRow-length, putRow-other}
-use Rattle.change.specs.Path.{pathOf, has, onPath}
+use Rattle.path.specs.Path.{pathOf, has, onPath}
 use Rattle.change.specs.Replace.{putList, editTest, onPassed, reworked, outcome, replaced}
 use Rattle.change.proofs.EditedLaws.{edited-rows, edited-is-row, edited-path}
-use Rattle.change.proofs.PathLaws.{on-within}
+use Rattle.path.proofs.PathLaws.{on-within}
 use Rattle.change.proofs.RefusalLaws.{Refuses, refuses-done, size-refuses, edit-refuses, reworked-later, passed-refused, passed-finished}
 use Rattle.change.proofs.TestLaws.{EditFits, edit-passed}
 

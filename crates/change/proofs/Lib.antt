@@ -1,16 +1,10 @@
-pub mod Cases
 pub mod AcceptLaws
-pub mod ClimbLaws
 pub mod Demand3
 pub mod EditedLaws
-pub mod EndLaws
 pub mod EntryLaws
 pub mod KeptLaws
-pub mod PathLaws
-pub mod PushLaws
 pub mod PutLaws
 pub mod RefusalLaws
-pub mod RestLaws
 pub mod ReworkLaws
 pub mod SeriesLaws
 pub mod SkipLaws

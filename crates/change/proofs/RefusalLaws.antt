@@ -20,7 +20,8 @@ use Rattle.settle.specs.declared.Settled.the-variants.{Set, NoPickup, NoDelay}
 use Rattle.settle.specs.Settle.{settled}
 use Rattle.work.specs.Card.{pickupIn, delayIn, putRow}
 use Rattle.work.specs.WorkOut.{Worked, finished, refused, onSettled, workOut}
-use Rattle.change.specs.Replace.{editRight, editTest, cardTest, cardAnswer, onPassed, reworked}
+use Rattle.change.specs.Replace.{editRight, editTest, onPassed, reworked}
+use Rattle.path.specs.CardTest.{cardTest, cardAnswer}
 
 -- a refusal: its number is not 0
 pub record Refuses (a : Answer) : Type 0 where

@@ -9,20 +9,22 @@ use lib.ListN.{length, drop}
 use Rattle.grid.proofs.BoolLaws.{not-both}
 use Rattle.rows.specs.declared.Tested.{Tested}
 use Rattle.rows.specs.declared.Tested.the-variants.{Passed, Refused}
-use Rattle.rows.specs.Row.{rows}
+use Rattle.row.specs.Row.{rows}
 use Rattle.rows.specs.InRange.{InRange, Feeds}
 use Rattle.rows.specs.Tests.{rowsTest}
 use Rattle.rows.proofs.InRangeLaws.{passed-in-range, passed-feeds}
 use Rattle.work.specs.Card.{pickupIn, delayIn}
 use Rattle.whole.specs.Whole.{calculation}
 use Rattle.whole.proofs.FrameLaws.{settled-same, calculation-keeps}
-use Rattle.change.specs.Path.{onPath}
-use Rattle.change.specs.Replace.{putList, cardTest, onPassed, reworked}
+use Rattle.path.specs.Path.{onPath}
+use Rattle.change.specs.Replace.{putList, onPassed, reworked}
+use Rattle.path.specs.CardTest.{cardTest}
 use Rattle.change.proofs.AcceptLaws.{Accepts, settled-fits, accepted-room, accepted-length, rows-settled}
 use Rattle.change.proofs.EditedLaws.{edited-rows, edited-is-row, edited-row, edited-feeder}
-use Rattle.change.proofs.PathLaws.{on-self}
+use Rattle.path.proofs.PathLaws.{on-self}
 use Rattle.change.proofs.SkipLaws.{Rests, fed-off, calculation-path, calculation-same}
-use Rattle.change.proofs.TestLaws.{EditFits, fits-pass}
+use Rattle.change.proofs.TestLaws.{EditFits}
+use Rattle.path.proofs.CardTestLaws.{fits-pass}
 
 module _ (l c₀ c : List ℕ) (x : Accepts l c₀ c) (place : ℕ) (row : List ℕ) (f : EditFits l place row) where
   abbrev l′ : List ℕ

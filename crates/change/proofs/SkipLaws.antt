@@ -11,7 +11,7 @@ use lib.Dec.{eqb}
 use lib.ListN.{length, take, drop, take-append-drop}
 use borrow.Author.Tests.{eqb-true, eqb-false, ne-eqb}
 use Rattle.grid.proofs.BoolLaws.{passes-or-fails, not-both, fails}
-use Rattle.rows.specs.Row.{rows, field}
+use Rattle.row.specs.Row.{rows, field}
 use Rattle.rows.specs.InRange.{InRange, Feeds}
 use Rattle.settle.specs.declared.Outcome.{Outcome}
 use Rattle.settle.specs.declared.Settled.{Settled}
@@ -24,9 +24,9 @@ use Rattle.work.proofs.CardLaws.{putRow-other, putRow-pickup-other, putRow-dela
 use Rattle.whole.specs.Whole.{calculation}
 use Rattle.whole.proofs.FrameLaws.{settled-same, framed, calculation-frame, calculation-keeps}
 use Rattle.whole.proofs.SettledLaws.{RowSettled}
-use Rattle.change.specs.Path.{pathOf, onPath}
-use Rattle.change.proofs.PathLaws.{fed-climbs, source-last, path-source, path-fed, on-fed, on-self, on-feeder, off-below}
-use Rattle.change.proofs.PutLaws.{row-stands}
+use Rattle.path.specs.Path.{pathOf, onPath}
+use Rattle.path.proofs.PathLaws.{fed-climbs, source-last, path-source, path-fed, on-fed, on-self, on-feeder, off-below}
+use Rattle.path.proofs.NumbersLaws.{row-stands}
 
 -- a row at its own least settings is written with what stands there
 workOut-skip : (l : List ℕ) (j : ℕ) (is c : List ℕ) → RowSettled l c j → workOut l (j ∷ is) c ≡ workOut l is c

@@ -1,81 +1,22 @@
 -- What the functions of a replacement ask of their callers, and the shape of their promises. Definitions only.
 use mathlib.Core.Path.{_≡_}
-use mathlib.Core.Bool.{not}
 use mathlib.Core.List.{List}
-use Prim.Native.Nat.{ℕ, _+_, _*_, _<_, _≤_}
-use lib.ListN.{length, getD, set}
+use Prim.Native.Nat.{ℕ, _+_, _*_, _≤_}
+use lib.ListN.{length}
 use Rattle.rows.specs.declared.Answer.{Answer}
 use Rattle.rows.specs.declared.Given.{Given}
-use Rattle.rows.specs.declared.Tested.{Tested}
-use Rattle.rows.specs.declared.Tested.the-variants.{Passed, Refused}
 use Rattle.rows.specs.Answer.{givenBy}
-use Rattle.rows.specs.Row.{rows, rowAt}
-use Rattle.rows.specs.Tests.{rowsTest}
-use Rattle.work.specs.Card.{pickupIn, delayIn, cutoffIn}
-use Rattle.work.specs.Ready.{PushReady}
-use Rattle.work.specs.WorkOut.{Worked, finished, refused}
-use Rattle.work.specs.Working.{Working}
-use Rattle.change.specs.declared.Numbers.{Numbers}
-use Rattle.change.specs.Path.{onPath}
-use Rattle.change.specs.Replace.{putList, cardTest, reworked, outcome, Replaced}
-
--- the three numbers of card row i
-abbrev pub numbersAt : List ℕ → ℕ → Numbers
-numbersAt c i = record { pickup = pickupIn c i; delay = delayIn c i; cutoff = cutoffIn c i }
-
-unfoldable pub putNumbers : List ℕ → ℕ → Numbers → List ℕ
-putNumbers c i k = set (set (set c (i * 3) (k .pickup)) (i * 3 + 1) (k .delay)) (i * 3 + 2) (k .cutoff)
+use Rattle.path.specs.Ready.{ReworkReady}
+use Rattle.change.specs.Replace.{putList, reworked, outcome, Replaced}
 
 -- row i of the list can be written: 18 numbers in the place of 18
 pub record PutReady (l : List ℕ) (i : ℕ) (row : List ℕ) : Type 0 where
   pub in-list : i * 18 + 18 ≤ length l
   pub row-length : length row ≡ 18
 
--- every row off the path of row i is done, and none on it
-pub record ClimbReady (l : List ℕ) (i : ℕ) (c s : List ℕ) : Type 0 where
-  pub is-row : i < rows l
-  pub working : Working l (λ j. not (onPath l i j)) c s
-
--- what row j asks with the numbers found on the card can be added
-pub record FoundReady (l : List ℕ) (j : ℕ) (c s : List ℕ) : Type 0 where
-  pub in-list : j * 18 + 18 ≤ length l
-  pub in-card : j * 3 + 3 ≤ length c
-  pub push : PushReady (rowAt l j) (pickupIn c j) (delayIn c j) s
-
--- row i of a list of the right size, with room on the card
-pub record ReworkReady (l : List ℕ) (i : ℕ) (c : List ℕ) : Type 0 where
-  pub is-row : i < rows l
-  pub rows-to : rows l ≤ 256
-  pub card-room : rows l * 3 ≤ length c
-
--- the same, list and card tested
-pub record PathReady (l : List ℕ) (i : ℕ) (c : List ℕ) : Type 0 where
-  pub rework : ReworkReady l i c
-  pub rows-tested : rowsTest l ≡ Passed
-  pub card-tested : cardTest l c ≡ Passed
-
--- the same, with sums that are all 0
-pub record RestReady (l : List ℕ) (i : ℕ) (c s : List ℕ) : Type 0 where
-  pub path : PathReady l i c
-  pub sums-room : rows l * 4 ≤ length s
-  pub sums-clear : (x : ℕ) → getD s x 0 ≡ 0
-
 pub record ExchangeReady (l : List ℕ) (i : ℕ) (c row : List ℕ) : Type 0 where
   pub rework : ReworkReady l i c
   pub row-length : length row ≡ 18
-
--- the answer of a working out that began on the card c, and the card after it
-unfoldable pub testedOf : Worked → Tested
-testedOf (finished c′) = Passed
-testedOf (refused a) = Refused a
-
-unfoldable pub cardOf : List ℕ → Worked → List ℕ
-cardOf c (finished c′) = c′
-cardOf c (refused a) = c
-
-pub record Reworked (w : Worked) (c : List ℕ) (t : Tested) (c′ : List ℕ) : Type 0 where
-  pub answer : t ≡ testedOf w
-  pub card : c′ ≡ cardOf c w
 
 -- a new row in the place of row i
 abbrev pub exchanged : List ℕ → List ℕ → ℕ → List ℕ → Replaced

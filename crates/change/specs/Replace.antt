@@ -1,23 +1,20 @@
 -- [01 §4] The replacement of one row of a list lent as numbers, on a card lent as numbers: the answer, and the list and
 -- the card afterwards. The order is 2, 3, 10, then 4 and 5 over the list as it would be, then 9 over all rows, then 6 and 7
 -- along the path, the card rows off the path read as they are found. A refusal leaves list and card. Definitions only.
-use mathlib.Core.Bool.{Bool, not, cond, _&&_}
+use mathlib.Core.Bool.{Bool, cond, _&&_}
 use mathlib.Core.List.{List, _++_}
 use Prim.Native.Nat.{ℕ, _+_, _-_, _*_}
 use lib.Dec.{leb, eqb}
 use lib.ListN.{length, getD, take, drop}
-use Rattle.grid.specs.declared.Found.{Found}
-use Rattle.grid.specs.declared.Found.the-variants.{At, Nothing}
-use Rattle.grid.specs.First.{first}
 use Rattle.rows.specs.declared.Answer.{Answer}
-use Rattle.rows.specs.declared.Answer.the-variants.{Done, Card, Edit}
+use Rattle.rows.specs.declared.Answer.the-variants.{Done, Edit}
 use Rattle.rows.specs.declared.Tested.{Tested}
 use Rattle.rows.specs.declared.Tested.the-variants.{Passed, Refused}
-use Rattle.rows.specs.Row.{rows, field}
+use Rattle.row.specs.Row.{rows, field}
 use Rattle.rows.specs.Tests.{sizeTest, rowsTest}
-use Rattle.work.specs.Card.{pickupIn, delayIn, cutoffIn}
 use Rattle.work.specs.WorkOut.{Worked, finished, refused, workOut}
-use Rattle.change.specs.Path.{pathOf}
+use Rattle.path.specs.Path.{pathOf}
+use Rattle.path.specs.CardTest.{cardTest}
 
 -- the list with a new row in the place of row i, counted from 0
 unfoldable pub putList : List ℕ → ℕ → List ℕ → List ℕ
@@ -30,18 +27,6 @@ editRight l place row =
 
 unfoldable pub editTest : List ℕ → ℕ → List ℕ → Tested
 editTest l place row = cond (editRight l place row) Passed (Refused Edit)
-
--- 9 CARD over all rows ascending
-unfoldable pub cardRight : List ℕ → ℕ → Bool
-cardRight c j =
-    (leb 1 (pickupIn c j) && leb (pickupIn c j) 100000000) && (leb (delayIn c j) 100000 && leb (cutoffIn c j) 100000000)
-
-unfoldable pub cardAnswer : Found → Tested
-cardAnswer (At j) = Refused (Card (j + 1))
-cardAnswer Nothing = Passed
-
-unfoldable pub cardTest : List ℕ → List ℕ → Tested
-cardTest l c = cardAnswer (first (λ j. not (cardRight c j)) 0 (rows l))
 
 -- a test passed goes on with what is next
 unfoldable pub onPassed : Tested → Worked → Worked

@@ -7,7 +7,7 @@ use lib.ListN.{replicate}
 use Rattle.rows.specs.declared.Answer.{Answer}
 use Rattle.rows.specs.declared.Answer.the-variants.{Edit}
 use Rattle.rows.specs.Answer.{givenBy}
-use Rattle.rows.specs.Row.{rows}
+use Rattle.row.specs.Row.{rows}
 use Rattle.whole.specs.Whole.{whole}
 use Rattle.change.specs.Replace.{putList, editRight, replaced}
 

@@ -7,7 +7,7 @@ use lib.Dec.{leb, eqb}
 use lib.ListN.{getD}
 use borrow.Author.Tests.{le-leb, lt-leb, eq-eqb, ne-eqb, leb-true}
 use Rattle.grid.proofs.BoolLaws.{and-left, and-right}
-use Rattle.rows.specs.Row.{field}
+use Rattle.row.specs.Row.{field}
 use Rattle.rows.specs.Tests.{bounds, fieldRight}
 
 -- the number x within its bounds and, in field 1, at its own place

@@ -14,7 +14,7 @@ use Rattle.grid.proofs.BoolLaws.{and-left, and-right}
 use Rattle.grid.proofs.FirstLaws.{first-none, first-nothing}
 use Rattle.rows.specs.declared.Tested.{Tested}
 use Rattle.rows.specs.declared.Tested.the-variants.{Passed}
-use Rattle.rows.specs.Row.{rows, field, rowAt}
+use Rattle.row.specs.Row.{rows, field, rowAt}
 use Rattle.rows.specs.Tests.{fieldRight, rowFault, faultAfter, rowAtFault, feedsRight, fedWrongly, fieldAnswer, treeAnswer, treeTest, rowsTest}
 use Rattle.rows.specs.InRange.{InRange, Feeds, Bounded}
 use Rattle.rows.proofs.FieldLaws.{right-from, right-to}

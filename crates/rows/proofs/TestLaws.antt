@@ -14,7 +14,7 @@ use Rattle.rows.specs.declared.Answer.{Answer}
 use Rattle.rows.specs.declared.Answer.the-variants.{Count, Room, Field, Tree}
 use Rattle.rows.specs.declared.Tested.{Tested}
 use Rattle.rows.specs.declared.Tested.the-variants.{Passed, Refused}
-use Rattle.rows.specs.Row.{rows, field}
+use Rattle.row.specs.Row.{rows, field}
 use Rattle.rows.specs.Tests.{fieldRight, faultAfter, rowFault, rowAtFault, feedsRight, fedWrongly, sizeTest, fieldAnswer, fieldsTest, rowsTest, treeAnswer, treeTest}
 
 -- the tests that the loops search with

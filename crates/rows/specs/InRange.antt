@@ -3,8 +3,8 @@ use mathlib.Core.Path.{_≡_}
 use mathlib.Core.Bool.{true}
 use mathlib.Core.List.{List}
 use Prim.Native.Nat.{ℕ, _≤_, _<_}
-use Rattle.rows.specs.declared.Row.{Row}
-use Rattle.rows.specs.Row.{rows, field}
+use Rattle.row.specs.declared.Row.{Row}
+use Rattle.row.specs.Row.{rows, field}
 use Rattle.rows.specs.Tests.{fieldRight, feedsRight}
 
 -- every field of every row is within its bounds, and low is at most high

@@ -1,4 +1,3 @@
 pub mod Answer
 pub mod InRange
-pub mod Row
 pub mod Tests

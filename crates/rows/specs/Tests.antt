@@ -11,7 +11,7 @@ use Rattle.grid.specs.First.{first}
 use Rattle.rows.specs.declared.Answer.the-variants.{Count, Room, Field, Tree}
 use Rattle.rows.specs.declared.Tested.{Tested}
 use Rattle.rows.specs.declared.Tested.the-variants.{Passed, Refused}
-use Rattle.rows.specs.Row.{rows, field}
+use Rattle.row.specs.Row.{rows, field}
 
 -- the least and the greatest number allowed in each field, in the order of section 2's table
 abbrev pub bounds : List ℕ

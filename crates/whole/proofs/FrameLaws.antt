@@ -14,8 +14,8 @@ use lib.Seq.{ext-getD, length-take-le, getD-take}
 use Rattle.grid.specs.Fold.{sumTo, maxTo}
 use Rattle.grid.proofs.BoolLaws.{passes-or-fails}
 use Rattle.grid.proofs.FoldLaws.{sumTo-same, maxTo-same}
-use Rattle.rows.specs.declared.Row.{Row}
-use Rattle.rows.specs.Row.{rows, field, rowAt}
+use Rattle.row.specs.declared.Row.{Row}
+use Rattle.row.specs.Row.{rows, field, rowAt}
 use Rattle.rows.specs.InRange.{InRange, Feeds}
 use Rattle.rows.proofs.InRangeLaws.{feeder-above, feeder-of-last}
 use Rattle.settle.specs.declared.Outcome.{Outcome}

@@ -12,7 +12,7 @@ use Rattle.grid.specs.Grid.{Available, leastOn}
 use Rattle.grid.proofs.BoolLaws.{not-both}
 use Rattle.grid.proofs.FoldLaws.{below-cases}
 use Rattle.grid.proofs.GridLaws.{leastOn-least, leastOn-nothing}
-use Rattle.rows.specs.Row.{rows, rowAt}
+use Rattle.row.specs.Row.{rows, rowAt}
 use Rattle.rows.specs.InRange.{InRange, Feeds}
 use Rattle.rows.proofs.InRangeLaws.{row-bounded}
 use Rattle.settle.specs.declared.Outcome.{Outcome}

@@ -11,7 +11,7 @@ use Rattle.grid.proofs.BoolLaws.{fails, not-both}
 use Rattle.grid.proofs.GridLaws.{leastOn-nothing}
 use Rattle.rows.specs.declared.Answer.{Answer}
 use Rattle.rows.specs.declared.Answer.the-variants.{Pickup, Delay}
-use Rattle.rows.specs.Row.{rows, rowAt}
+use Rattle.row.specs.Row.{rows, rowAt}
 use Rattle.rows.specs.InRange.{InRange, Feeds}
 use Rattle.rows.proofs.InRangeLaws.{row-bounded}
 use Rattle.settle.specs.declared.Outcome.{Outcome}

@@ -7,7 +7,7 @@ use Rattle.rows.specs.declared.Answer.{Answer}
 use Rattle.rows.specs.declared.Given.{Given}
 use Rattle.rows.specs.declared.Tested.the-variants.{Passed}
 use Rattle.rows.specs.Answer.{givenBy}
-use Rattle.rows.specs.Row.{rows}
+use Rattle.row.specs.Row.{rows}
 use Rattle.rows.specs.Tests.{rowsTest}
 use Rattle.whole.specs.Whole.{Result}
 

@@ -1,6 +1,6 @@
 // The whole calculation of a lent list, on a lent card [01 §4].
+use row::FIELDS;
 use rows::Answer;
-use rows::FIELDS;
 use rows::Given;
 use rows::Tested;
 use rows::numbers;

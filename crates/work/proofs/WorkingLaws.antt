@@ -12,8 +12,8 @@ use lib.ListN.{length}
 use borrow.Author.Tests.{ne-eqb, eqb-true, eqb-false}
 use Rattle.grid.proofs.BoolLaws.{passes-or-fails, not-both, and-left}
 use Rattle.grid.proofs.FoldLaws.{sumTo-bound, maxTo-bound, sumTo-same, maxTo-same, sum-next, max-next}
-use Rattle.rows.specs.declared.Row.{Row}
-use Rattle.rows.specs.Row.{rows, rowAt}
+use Rattle.row.specs.declared.Row.{Row}
+use Rattle.row.specs.Row.{rows, rowAt}
 use Rattle.rows.proofs.InRangeLaws.{row-bounded, feeder-above, feeder-of-last}
 use Rattle.settle.specs.declared.Fed.{Fed}
 use Rattle.settle.specs.declared.Outcome.{Outcome}

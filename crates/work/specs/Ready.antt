@@ -3,9 +3,9 @@ use mathlib.Core.Path.{_≡_}
 use mathlib.Core.List.{List}
 use Prim.Native.Nat.{ℕ, _+_, _-_, _*_, _≤_}
 use lib.ListN.{length}
-use Rattle.rows.specs.declared.Row.{Row}
+use Rattle.row.specs.declared.Row.{Row}
 use Rattle.rows.specs.declared.Tested.{Tested}
-use Rattle.rows.specs.Row.{rowAt}
+use Rattle.row.specs.Row.{rowAt}
 use Rattle.rows.specs.InRange.{Bounded}
 use Rattle.settle.specs.Fed.{FedBounded}
 use Rattle.work.specs.Sums.{fedAt, Step}

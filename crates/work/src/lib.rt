@@ -1,10 +1,10 @@
 // One row worked out on a lent card. What a row's fed rows ask of it is kept in `sums`, four numbers a row, and each
 // row that is worked out adds its own for the row that feeds it: so no row looks at its fed rows again.
 use grid::greater;
+use row::Row;
+use row::row_at;
 use rows::Answer;
-use rows::Row;
 use rows::Tested;
-use rows::row_at;
 use settle::Fed;
 use settle::Outcome;
 use settle::Settled;
@@ -15,7 +15,7 @@ ghost use mathlib.Core.Path.{_≡_};
 ghost use Prim.Native.Nat.{_+_, _-_, _*_, _<_, _≤_};
 ghost use lib.ListN.{length};
 ghost use Rattle.rows.specs.InRange.{Bounded};
-ghost use Rattle.rows.specs.Row.{rowAt};
+ghost use Rattle.row.specs.Row.{rowAt};
 ghost use Rattle.settle.specs.Fed.{FedBounded};
 ghost use Rattle.work.specs.Card.{putRow};
 ghost use Rattle.work.specs.Ready.{PushReady, WorkReady, Stepped};

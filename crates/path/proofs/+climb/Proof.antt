@@ -1,0 +1,150 @@
+-- `climb` works out the path of row i: the row itself, then the path of its feeding row. The measure is the rows left above.
+-- Assumes nothing.
+use mathlib.Core.Path.{subst}
+use Prim.Native.Nat.{_-_, ℕ, _<_}
+use native.Mathlib.Omega.{arith}
+use borrow.Author.Needs.{needs}
+use borrow.Fn.Kinds.{In}
+use borrow.Fn.PlainCycle.{Measures, is, falls, and}
+use Rattle.row.specs.Row.{rows}
+use Rattle.row.proofs.field_at.Reads as field-at-reads
+use Rattle.work.proofs.work_row.Reads as work-row-reads
+use Rattle.path.proofs.ClimbLaws.{climb-works, climb-refused, climb-source, climb-on, climb-less, climb-back, climb-done}
+use Rattle.path.proofs.climb.Reads as climb
+use Rattle.path.proofs.climb.Kinds as climb-kinds
+use Rattle.path.proofs.+climb.Lts-climb as climb-lts
+use Rattle.path.proofs.numbers_at.Reads as numbers-at-reads
+use Rattle.path.proofs.put_numbers.Reads as put-numbers-reads
+use Rattle.path.proofs.+climb.{statement}
+use Rattle.path.proofs.+climb.Tie.{close}
+
+abbrev μ-climb : Measures 3 climb-kinds.ps ℕ
+μ-climb κs a = rows (a .0 .now) - a .1 .0
+
+abbrev climb-at : ℕ → In 3 climb-kinds.ps
+climb-at t = and 3 climb-kinds.ps (is 3 climb-kinds.ps μ-climb t) climb.Pre
+
+abbrev climb-below : ℕ → In 3 climb-kinds.ps
+climb-below t = and 3 climb-kinds.ps (falls 3 climb-kinds.ps _<_ μ-climb t) climb.Pre
+
+abbrev callees : ℕ → climb-lts.Claims
+callees t = (
+  numbers-at-reads.Asked,
+  numbers-at-reads.Learnt,
+  work-row-reads.Asked,
+  work-row-reads.Learnt,
+  field-at-reads.Asked,
+  field-at-reads.Learnt,
+  climb-below t,
+  climb.Post,
+  put-numbers-reads.Asked,
+  put-numbers-reads.Learnt,
+)
+
+climb-numbers-at-requires : (t : ℕ) → climb-lts.Need-numbers-at-requires (callees t) (climb-at t) climb.Post
+climb-numbers-at-requires t c κs =
+    climb-works _ _ _ _ (c .before .before .before .before .pre .1) .in-card
+
+climb-work-row-requires : (t : ℕ) → climb-lts.Need-work-row-requires (callees t) (climb-at t) climb.Post
+climb-work-row-requires t c κs =
+    climb-works _ _ _ _ (c .before .before .before .before .before .before .before .pre .1)
+
+climb-enum-known-own : (t : ℕ) → climb-lts.Need-enum-known-own (callees t) (climb-at t) climb.Post
+climb-enum-known-own t c = search needs
+
+climb-same-length : (t : ℕ) → climb-lts.Need-same-length (callees t) (climb-at t) climb.Post
+climb-same-length t c = search needs
+
+climb-same-length-2 : (t : ℕ) → climb-lts.Need-same-length-2 (callees t) (climb-at t) climb.Post
+climb-same-length-2 t c = search needs
+
+climb-returns : (t : ℕ) → climb-lts.Need-returns (callees t) (climb-at t) climb.Post
+climb-returns t c =
+    climb-refused _ _ _ _ (c .before .before .before .before .before .before .before .before .before .before .before .before .before .before .before .pre .1) _ _ _ (c .before .before .before .before .before .before .before .work-row .ensures) _ (c .before .own .given .1)
+
+climb-enum-told : (t : ℕ) → climb-lts.Need-enum-told (callees t) (climb-at t) climb.Post
+climb-enum-told t c = search needs
+
+climb-field-at-requires : (t : ℕ) → climb-lts.Need-field-at-requires (callees t) (climb-at t) climb.Post
+climb-field-at-requires t c κs =
+    let k = climb-works _ _ _ _ (c .before .before .before .before .before .before .before .before .before .before .before .before .before .before .pre .1) in omega (arith, k .in-list)
+
+climb-same-length-3 : (t : ℕ) → climb-lts.Need-same-length-3 (callees t) (climb-at t) climb.Post
+climb-same-length-3 t c = search needs
+
+climb-same-length-4 : (t : ℕ) → climb-lts.Need-same-length-4 (callees t) (climb-at t) climb.Post
+climb-same-length-4 t c = search needs
+
+climb-returns-2 : (t : ℕ) → climb-lts.Need-returns-2 (callees t) (climb-at t) climb.Post
+climb-returns-2 t c =
+    climb-source _ _ _ _ (c .before .before .before .before .before .before .before .before .before .before .before .before .before .before .before .before .pre .1) _ _ _ (c .before .before .before .before .before .before .before .before .work-row .ensures) (c .before .before .enum-told .given .1) _ (c .before .field-at .ensures) (c .if1 .taken)
+
+climb-sub-climb : (t : ℕ) → climb-lts.Need-sub-climb (callees t) (climb-at t) climb.Post
+climb-sub-climb t c =
+    search needs
+
+climb-climb-requires : (t : ℕ) → climb-lts.Need-climb-requires (callees t) (climb-at t) climb.Post
+climb-climb-requires t c κs = (
+  subst (λ (n : ℕ). rows (c .before .before .before .before .before .before .before .before .before .before .before .before .before .before .before .before .before .before .args .list .now) - (c .before .before .before .field-at .result - 1) < n) (c .before .before .before .before .before .before .before .before .before .before .before .before .before .before .before .before .before .before .pre .0)
+      (climb-less _ _ _ _ (c .before .before .before .before .before .before .before .before .before .before .before .before .before .before .before .before .before .before .pre .1) _ _ _ (c .before .before .before .before .before .before .before .before .before .before .work-row .ensures) (c .before .before .before .before .enum-told .given .1) _ (c .before .before .before .field-at .ensures) (c .before .before .if1 .left)),
+  climb-on _ _ _ _ (c .before .before .before .before .before .before .before .before .before .before .before .before .before .before .before .before .before .before .pre .1) _ _ _ (c .before .before .before .before .before .before .before .before .before .before .work-row .ensures) (c .before .before .before .before .enum-told .given .1) _ (c .before .before .before .field-at .ensures) (c .before .before .if1 .left),
+)
+
+climb-enum-known-rest : (t : ℕ) → climb-lts.Need-enum-known-rest (callees t) (climb-at t) climb.Post
+climb-enum-known-rest t c = search needs
+
+climb-put-numbers-requires : (t : ℕ) → climb-lts.Need-put-numbers-requires (callees t) (climb-at t) climb.Post
+climb-put-numbers-requires t c κs =
+    let k = climb-works _ _ _ _ (c .before .before .before .before .before .before .before .before .before .before .before .before .before .before .before .before .before .before .before .before .before .before .before .before .before .before .before .pre .1) in omega (arith, k .in-card, c .before .before .before .before .before .before .before .before .before .before .before .before .before .before .before .before .before .before .before .work-row .kept .1 .1 .0, c .before .before .before .before .before .before .before .before .climb .kept .1 .1 .0)
+
+climb-same-length-5 : (t : ℕ) → climb-lts.Need-same-length-5 (callees t) (climb-at t) climb.Post
+climb-same-length-5 t c = search needs
+
+climb-same-length-6 : (t : ℕ) → climb-lts.Need-same-length-6 (callees t) (climb-at t) climb.Post
+climb-same-length-6 t c = search needs
+
+climb-returns-3 : (t : ℕ) → climb-lts.Need-returns-3 (callees t) (climb-at t) climb.Post
+climb-returns-3 t c =
+    climb-back _ _ _ _ (c .before .before .before .before .before .before .before .before .before .before .before .before .before .before .before .before .before .before .before .before .before .before .before .before .before .before .before .before .before .before .pre .1) _ _ _ (c .before .before .before .before .before .before .before .before .before .before .before .before .before .before .before .before .before .before .before .before .before .before .work-row .ensures) (c .before .before .before .before .before .before .before .before .before .before .before .before .before .before .before .before .enum-told .given .1) _ (c .before .before .before .before .before .before .before .before .before .before .before .before .before .before .before .field-at .ensures) (c .before .before .before .before .before .before .before .before .before .before .before .before .before .before .if1 .left)
+    _ _ _ _ _ (c .before .before .before .before .before .before .before .before .before .before .before .climb .ensures) (c .before .before .before .before .before .rest .given .1) (c .before .before .before .before .before .before .before .before .before .before .before .before .before .before .before .before .before .before .before .before .before .before .before .before .before .numbers-at .ensures) (c .before .before .put-numbers .ensures)
+
+climb-enum-told-2 : (t : ℕ) → climb-lts.Need-enum-told-2 (callees t) (climb-at t) climb.Post
+climb-enum-told-2 t c = search needs
+
+climb-same-length-7 : (t : ℕ) → climb-lts.Need-same-length-7 (callees t) (climb-at t) climb.Post
+climb-same-length-7 t c = search needs
+
+climb-same-length-8 : (t : ℕ) → climb-lts.Need-same-length-8 (callees t) (climb-at t) climb.Post
+climb-same-length-8 t c = search needs
+
+climb-returns-4 : (t : ℕ) → climb-lts.Need-returns-4 (callees t) (climb-at t) climb.Post
+climb-returns-4 t c =
+    climb-done _ _ _ _ (c .before .before .before .before .before .before .before .before .before .before .before .before .before .before .before .before .before .before .before .before .before .before .before .before .before .pre .1) _ _ _ (c .before .before .before .before .before .before .before .before .before .before .before .before .before .before .before .before .before .work-row .ensures) (c .before .before .before .before .before .before .before .before .before .before .before .enum-told .given .1) _ (c .before .before .before .before .before .before .before .before .before .before .field-at .ensures) (c .before .before .before .before .before .before .before .before .before .if1 .left)
+    _ _ (c .before .before .before .before .before .before .climb .ensures) (c .enum-told2 .given .1)
+
+pub +climb-spec : {M : Type 1} → statement M
++climb-spec = close μ-climb λ t. climb-lts.spec (callees t)
+    (climb-at t)
+    climb.Post
+    (climb-numbers-at-requires t)
+    (climb-work-row-requires t)
+    (climb-enum-known-own t)
+    (climb-same-length t)
+    (climb-same-length-2 t)
+    (climb-returns t)
+    (climb-enum-told t)
+    (climb-field-at-requires t)
+    (climb-same-length-3 t)
+    (climb-same-length-4 t)
+    (climb-returns-2 t)
+    (climb-sub-climb t)
+    (climb-climb-requires t)
+    (climb-enum-known-rest t)
+    (climb-put-numbers-requires t)
+    (climb-same-length-5 t)
+    (climb-same-length-6 t)
+    (climb-returns-3 t)
+    (climb-enum-told-2 t)
+    (climb-same-length-7 t)
+    (climb-same-length-8 t)
+    (climb-returns-4 t)

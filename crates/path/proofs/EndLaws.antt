@@ -1,0 +1,32 @@
+-- How a working out ends: what an answer says of it, and of the card. Assumes nothing.
+use mathlib.Core.Path.{_≡_, refl, sym, ap, _∙_}
+use mathlib.Core.List.{List}
+use Prim.Native.Nat.{ℕ}
+use native.Mathlib.Omega.{arith}
+use Rattle.rows.specs.declared.Answer.{Answer}
+use Rattle.rows.specs.declared.Tested.{Tested}
+use Rattle.rows.specs.declared.Tested.the-variants.{Passed, Refused}
+use Rattle.work.specs.WorkOut.{Worked, finished, refused}
+use Rattle.path.specs.Ready.{testedOf, cardOf, Reworked}
+
+pub never : {a : Answer} → Passed ≡ Refused a → ⊥
+never e = let z : _≡_ {A = ℕ} 0 1 = cc in omega arith
+
+-- worked out on the card c′
+module _ (w : Worked) (c c′ : List ℕ) (t : Tested) (c″ : List ℕ) (z : Reworked w c′ t c″) where
+  pub reworked-done : t ≡ Passed → Reworked w c Passed c″
+  unfolding testedOf cardOf
+  reworked-done e = by-cases w (sym e ∙ z .answer) (z .card)
+    where
+      by-cases : (w : Worked) → Passed ≡ testedOf w → c″ ≡ cardOf c′ w → Reworked w c Passed c″
+      by-cases (finished d) e q = record { answer = refl; card = q }
+      by-cases (refused a) e q = absurd (never e)
+
+  -- what a refusal is, and that it kept the card
+  pub reworked-refused : (a : Answer) → t ≡ Refused a → (w ≡ refused a) × (c″ ≡ c′)
+  unfolding testedOf cardOf
+  reworked-refused a e = by-cases w (sym e ∙ z .answer) (z .card)
+    where
+      by-cases : (w : Worked) → Refused a ≡ testedOf w → c″ ≡ cardOf c′ w → (w ≡ refused a) × (c″ ≡ c′)
+      by-cases (finished d) e q = absurd (never (sym e))
+      by-cases (refused b) e q = let s : a ≡ b = cc in (ap refused (sym s), q)

@@ -1,0 +1,7 @@
+pub mod CardTestLaws
+pub mod ClimbLaws
+pub mod EndLaws
+pub mod NumbersLaws
+pub mod PathLaws
+pub mod PushLaws
+pub mod RestLaws

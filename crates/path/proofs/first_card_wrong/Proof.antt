@@ -1,0 +1,50 @@
+-- `first_card_wrong` finds the first card row out of range: the rows that the loop has passed are in range. Assumes nothing.
+use mathlib.Core.Path.{ap, sym, _∙_}
+use mathlib.Core.Bool.{not}
+use Prim.Native.Nat.{_-_}
+use native.Mathlib.Omega.{arith}
+use Rattle.grid.proofs.FirstLaws.{Passed, passed-none, passed-more, passed-found, passed-all}
+use Rattle.path.specs.CardTest.{cardRight}
+use Rattle.path.proofs.first_card_wrong.Statement.{statement}
+use Rattle.path.proofs.first_card_wrong.Tie as tie
+
+abbrev Inv-loop : tie.InvT-loop
+Inv-loop card n j₀ j = Passed (λ j. not (cardRight card j)) n j
+
+abbrev μ-loop : tie.MeasureT-loop
+μ-loop card n j₀ j = n - j
+
+loop-holds : tie.Need-loop-holds Inv-loop μ-loop
+loop-holds c = passed-none _ _
+
+card-right-requires : tie.Need-card-right-requires Inv-loop μ-loop
+card-right-requires c κs = omega arith
+
+returns : tie.Need-returns Inv-loop μ-loop
+returns c = sym (passed-found _ (c .before .before .before .loop .inv) (c .before .before .loop-test .taken) (sym (ap not (c .before .card-right .ensures)) ∙ c .if1 .taken))
+
+add-j : tie.Need-add-j Inv-loop μ-loop
+add-j c = omega arith
+
+loop-less : tie.Need-loop-less Inv-loop μ-loop
+loop-less c = omega arith
+
+loop-again : tie.Need-loop-again Inv-loop μ-loop
+loop-again c = passed-more _ (c .before .before .before .loop .inv) (c .before .before .loop-test .taken) (sym (ap not (c .before .card-right .ensures)) ∙ c .if1 .left)
+
+returns-2 : tie.Need-returns-2 Inv-loop μ-loop
+returns-2 c = sym (passed-all _ (c .before .loop .inv) (c .loop-test .left))
+
+pub first-card-wrong-spec : {M : Type 1} → statement M
+first-card-wrong-spec =
+    tie.close
+    (tie.spec
+    Inv-loop
+    μ-loop
+    loop-holds
+    card-right-requires
+    returns
+    add-j
+    loop-less
+    loop-again
+    returns-2)

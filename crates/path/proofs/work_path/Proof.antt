@@ -1,0 +1,37 @@
+-- `work_path` begins with sums that are all 0, counts the rows off the path, and climbs. Assumes nothing.
+use native.Mathlib.Omega.{arith}
+use borrow.Author.Needs.{needs}
+use Rattle.whole.proofs.AllLaws.{clear-reads}
+use Rattle.path.proofs.work_path.Statement.{statement}
+use Rattle.path.proofs.work_path.Tie as tie
+
+slice-aggregate-push-rest : tie.Need-slice-aggregate-push-rest
+slice-aggregate-push-rest c = search needs
+
+push-rest-requires : tie.Need-push-rest-requires
+push-rest-requires c κs =
+    let a = c .before .before .before .before .pre in
+    record { path = a; sums-room = omega (arith, a .rework .rows-to); sums-clear = clear-reads 1024 }
+
+slice-aggregate-climb : tie.Need-slice-aggregate-climb
+slice-aggregate-climb c = search needs
+
+climb-requires : tie.Need-climb-requires
+climb-requires c κs = search needs
+
+same-length : tie.Need-same-length
+same-length c = search needs
+
+returns : tie.Need-returns
+returns c = search needs
+
+pub work-path-spec : {M : Type 1} → statement M
+work-path-spec =
+    tie.close
+    (tie.spec
+    slice-aggregate-push-rest
+    push-rest-requires
+    slice-aggregate-climb
+    climb-requires
+    same-length
+    returns)

@@ -1,0 +1,3 @@
+pub mod CardTest
+pub mod Path
+pub mod Ready

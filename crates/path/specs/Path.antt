@@ -1,0 +1,29 @@
+-- [01 §2] A row's path: the row itself and then the path of its feeding row. Rows are counted from 0. Definitions only.
+use mathlib.Core.Bool.{Bool, false, cond, _||_}
+use mathlib.Core.List.{List, [], _∷_}
+use Prim.Native.Nat.{ℕ, zero, suc, _-_}
+use lib.Dec.{eqb}
+use Rattle.row.specs.Row.{rows, field}
+
+-- the path from row i, of at most n rows
+unfoldable pub pathFrom : List ℕ → ℕ → ℕ → List ℕ
+pathFrom l zero i = []
+pathFrom l (suc n) i =
+    let above = pathFrom l n (field l i 1 - 1) in
+    i ∷ cond (eqb (field l i 1) 0) [] above
+
+-- feeding rows have greater numbers, so a path has no more rows than the list
+unfoldable pub pathOf : List ℕ → ℕ → List ℕ
+pathOf l i = pathFrom l (rows l) i
+
+-- the row that feeds row i; the number of rows where none does
+unfoldable pub aboveOf : List ℕ → ℕ → ℕ
+aboveOf l i = cond (eqb (field l i 1) 0) (rows l) (field l i 1 - 1)
+
+unfoldable pub has : List ℕ → ℕ → Bool
+has [] j = false
+has (i ∷ is) j = eqb j i || has is j
+
+-- row j is on the path of row i
+unfoldable pub onPath : List ℕ → ℕ → ℕ → Bool
+onPath l i j = has (pathOf l i) j
