@@ -10,17 +10,18 @@ use lib.IntN.{ℤ, pos, negsuc}
 use lib.Dec.{T, lit≤}
 use lib.Ieee.{Float, inf, fin, binary32, ofBits, nanBits}
 use lib.Ieee.Bits.{nanBits-is}
-use Rattle.study.specs.declared.single.Rounding.{Rounding}
-use Rattle.study.specs.declared.single.Rounding.the-variants.{Up, Down}
-use Rattle.study.specs.declared.single.Current.{Current}
-use Rattle.study.specs.declared.single.Current.the-variants.{Milliamperes, Refused}
+use Rattle.single.specs.declared.Rounding.{Rounding}
+use Rattle.single.specs.declared.Rounding.the-variants.{Up, Down}
+use Rattle.single.specs.declared.Current.{Current}
+use Rattle.single.specs.declared.Current.the-variants.{Milliamperes, Refused}
 use Rattle.study.specs.declared.Study.{Study}
 use Rattle.study.specs.declared.Converted.{Converted}
-use Rattle.study.specs.Exact.{wholeOf, Rounds}
-use Rattle.study.specs.Currents.{allowed, ratedFits, currentOf, Gives, readingOf, refusedAt, answerOf, convertOf}
+use Rattle.single.specs.Exact.{wholeOf, Rounds}
+use Rattle.single.specs.SingleCurrent.{allowed, currentOf, Gives}
+use Rattle.study.specs.Currents.{ratedFits, readingOf, refusedAt, answerOf, convertOf}
 use Rattle.study.specs.Cases.{Case, table}
-use Rattle.study.proofs.RoundLaws as round
-use Rattle.study.proofs.CurrentLaws as current
+use Rattle.single.proofs.RoundLaws as round
+use Rattle.single.proofs.CurrentLaws as current
 
 -- ---- the fraction n / d rounded down is the greatest whole number at or below it, and rounded up the least at or above it
 

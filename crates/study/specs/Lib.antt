@@ -1,5 +1,3 @@
 -- The meaning of the study's currents: what the contracts cite, and worked cases. Definitions only.
-pub mod Exact
 pub mod Currents
-pub mod Steps
 pub mod Cases

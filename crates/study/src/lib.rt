@@ -3,9 +3,6 @@
 ghost use mathlib.Core.Path.{_≡_};
 ghost use lib.Dec.{T};
 ghost use Rattle.study.specs.Currents.{ratedFits, readingOf, refusedAt, answerOf, convertOf};
-
-mod single;
-
 use single::Current;
 use single::Rounding;
 use single::allowed_current;

@@ -2,8 +2,8 @@
 use Prim.Native.Nat.{ℕ}
 use mathlib.Core.Path.{_≡_, refl}
 use borrow.Author.Needs.{needs}
-use Rattle.study.specs.declared.single.Current.{Current}
-use Rattle.study.specs.declared.single.Current.the-variants.{Milliamperes, Refused}
+use Rattle.single.specs.declared.Current.{Current}
+use Rattle.single.specs.declared.Current.the-variants.{Milliamperes, Refused}
 use Rattle.study.specs.declared.Converted.{Converted}
 use Rattle.study.specs.Currents.{refusedAt, answerOf}
 use Rattle.study.proofs.answer.Statement.{statement}

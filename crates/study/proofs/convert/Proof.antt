@@ -5,8 +5,8 @@ use mathlib.Core.Bool.{Bool, true, false, _&&_, cond}
 use denote.Floats.{passes}
 use borrow.Author.Needs.{needs}
 use borrow.Author.Tests.{not-true, not-false}
-use Rattle.study.specs.declared.single.Rounding.the-variants.{Up, Down}
-use Rattle.study.specs.declared.single.Current.{Current}
+use Rattle.single.specs.declared.Rounding.the-variants.{Up, Down}
+use Rattle.single.specs.declared.Current.{Current}
 use Rattle.study.specs.declared.Study.{Study}
 use Rattle.study.specs.Currents.{ratedFits, readingOf, refusedAt, answerOf, convertOf}
 use Rattle.study.proofs.convert.Statement.{statement}

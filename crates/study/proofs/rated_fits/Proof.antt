@@ -3,7 +3,8 @@ use mathlib.Core.Path.{sym, ap, _∙_}
 use mathlib.Core.Bool.{not, _||_}
 use borrow.Author.Needs.{needs}
 use Rattle.study.specs.declared.Quantity.{Quantity}
-use Rattle.study.specs.Currents.{needed, allowed}
+use Rattle.single.specs.SingleCurrent.{allowed}
+use Rattle.study.specs.Currents.{needed}
 use Rattle.study.proofs.rated_fits.Statement.{statement}
 use Rattle.study.proofs.rated_fits.Tie as tie
 

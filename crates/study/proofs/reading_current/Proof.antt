@@ -3,11 +3,12 @@ use mathlib.Core.Path.{_≡_, sym, ap, subst, _∙_}
 use mathlib.Core.Bool.{not, _||_}
 use lib.Dec.{T}
 use borrow.Author.Needs.{needs}
-use Rattle.study.specs.declared.single.Rounding.{Rounding}
-use Rattle.study.specs.declared.single.Current.{Current}
+use Rattle.single.specs.declared.Rounding.{Rounding}
+use Rattle.single.specs.declared.Current.{Current}
 use Rattle.study.specs.declared.Quantity.{Quantity}
 use Rattle.study.specs.declared.Reading.{Reading}
-use Rattle.study.specs.Currents.{allowed, needed, singleOf, scaleOf, currentOf, readingOf}
+use Rattle.single.specs.SingleCurrent.{allowed, currentOf}
+use Rattle.study.specs.Currents.{needed, singleOf, scaleOf, readingOf}
 use Rattle.study.proofs.reading_current.Statement.{statement}
 use Rattle.study.proofs.reading_current.Tie as tie
 

@@ -1,0 +1,117 @@
+-- `currentOf` gives a whole number of mA exactly where `Gives` says so, and refuses what section 5 names: by cases on the single, its quotient being
+-- what `Rounds` says. Assumes nothing.
+use Prim.Native.Nat.{ℕ, zero, suc, _*_, _≤_, _<_}
+use native.Mathlib.Nat.{zero-mul, mul-one, zero-lt-suc}
+use native.Mathlib.Omega.{arith}
+use mathlib.Core.Path.{_≡_, refl, sym, ap, _∙_, subst}
+use mathlib.Core.Bool.{Bool, true, false, _&&_, cond, true≢false}
+use lib.IntN.{ℤ}
+use lib.Dec.{T, ltb}
+use lib.Pow.{pow-pos}
+use lib.Ieee.{Float, nan, inf, fin, up, down, isNan}
+use lib.Ieee.Fits.{down-pos}
+use denote.Floats.{passes}
+use borrow.Author.Tests.{lt-ltb, le-leb}
+use Rattle.single.specs.declared.Rounding.{Rounding}
+use Rattle.single.specs.declared.Current.{Current}
+use Rattle.single.specs.declared.Current.the-variants.{Milliamperes, Refused}
+use Rattle.single.specs.Exact.{wholeOf, Rounds}
+use Rattle.single.specs.SingleCurrent.{allowed, ifAllowed, currentOf, Gives}
+use Rattle.single.proofs.RoundLaws.{whole-rounds, rounds-unique, whole-of-one, whole-same}
+use Rattle.single.proofs.ScreenLaws.{allowed-low, allowed-high}
+
+-- ---- what `ifAllowed` gives
+
+refused-is-none : (k : ℕ) → Refused ≡ Milliamperes k → ⊥
+refused-is-none k h = let z : _≡_ {A = ℕ} 0 1 = cc in omega arith
+
+allowed-given : (w k : ℕ) → ifAllowed w ≡ Milliamperes k → (w ≡ k) × T (allowed w)
+allowed-given w k h = go (allowed w) refl h
+  where
+    go : (b : Bool) → allowed w ≡ b → cond b (Milliamperes w) Refused ≡ Milliamperes k → (w ≡ k) × T (allowed w)
+    go true e g = (cc, passes (allowed w) e)
+    go false e g = absurd (refused-is-none k g)
+
+given-allowed : (w k : ℕ) → w ≡ k → 1 ≤ k → k ≤ 100000000 → ifAllowed w ≡ Milliamperes k
+given-allowed w k e low high = ap ifAllowed e ∙ simp (le-leb 1 k low, le-leb k 100000000 high)
+
+-- ---- `Gives`
+
+module _ (to : Rounding) (n d k : ℕ) (D : 0 < d) where
+  given-rounds : ifAllowed (wholeOf to n d) ≡ Milliamperes k → Rounds to n d k × (1 ≤ k) × (k ≤ 100000000)
+  given-rounds h =
+      let g = allowed-given (wholeOf to n d) k h in
+      let a : T (allowed k) = subst (λ (w : ℕ). T (allowed w)) (g .0) (g .1) in
+      (subst (λ (w : ℕ). Rounds to n d w) (g .0) (whole-rounds to n d D), allowed-low k a, allowed-high k a)
+
+  rounds-given : Rounds to n d k → 1 ≤ k → k ≤ 100000000 → ifAllowed (wholeOf to n d) ≡ Milliamperes k
+  rounds-given r low high = given-allowed (wholeOf to n d) k (rounds-unique to n d (wholeOf to n d) k (whole-rounds to n d D) r) low high
+
+negative-none : (m k : ℕ) (c : Current) → 0 < m → cond (ltb 0 m) Refused c ≡ Milliamperes k → ⊥
+negative-none m k c h g = refused-is-none k (sym (simp (lt-ltb 0 m h)) ∙ g)
+
+pub current-gives : (to : Rounding) (x : Float) (scale k : ℕ) → currentOf to x scale ≡ Milliamperes k → Gives to x scale k
+unfolding currentOf
+current-gives to nan scale k h = refused-is-none k h
+current-gives to (inf s) scale k h = refused-is-none k h
+current-gives to (fin false m e) scale k h =
+    let g = given-rounds to (m * up e * scale) (down e) k (down-pos e) h in
+    (λ t. absurd (true≢false (sym t)), g .0, g .1, g .2)
+current-gives to (fin true zero e) scale k h =
+    let g = given-rounds to (0 * up e * scale) (down e) k (down-pos e) h in
+    (λ t. refl, g .0, g .1, g .2)
+current-gives to (fin true (suc m) e) scale k h = absurd (negative-none (suc m) k (ifAllowed (wholeOf to (suc m * up e * scale) (down e))) (zero-lt-suc m) h)
+
+pub gives-current : (to : Rounding) (x : Float) (scale k : ℕ) → Gives to x scale k → currentOf to x scale ≡ Milliamperes k
+unfolding currentOf
+gives-current to nan scale k h = absurd h
+gives-current to (inf s) scale k h = absurd h
+gives-current to (fin false m e) scale k h = rounds-given to (m * up e * scale) (down e) k (down-pos e) (h .1) (h .2) (h .3)
+gives-current to (fin true zero e) scale k h = rounds-given to (0 * up e * scale) (down e) k (down-pos e) (h .1) (h .2) (h .3)
+gives-current to (fin true (suc m) e) scale k h = absurd (none m (h .0 refl))
+  where
+    none : (m : ℕ) → suc m ≡ 0 → ⊥
+    none m g = omega arith
+
+-- ---- refusals
+
+-- zero over anything is 0, which is not allowed
+zero-mA : (to : Rounding) (e : ℤ) (scale : ℕ) → ifAllowed (wholeOf to (0 * up e * scale) (down e)) ≡ Refused
+zero-mA to e scale =
+    let none : 0 * up e * scale * 1 ≡ 0 * down e = mul-one (0 * up e * scale) ∙ ap (λ (n : ℕ). n * scale) (zero-mul (up e)) ∙ zero-mul scale ∙ sym (zero-mul (down e)) in
+    ap ifAllowed (whole-same to (0 * up e * scale) (down e) 0 1 (down-pos e) (pow-pos 0) none ∙ whole-of-one to 0)
+
+pub nan-refused : (to : Rounding) (x : Float) (scale : ℕ) → isNan x ≡ true → currentOf to x scale ≡ Refused
+unfolding currentOf isNan
+nan-refused to nan scale h = refl
+nan-refused to (inf s) scale h = refl
+nan-refused to (fin s m e) scale h = absurd (true≢false (sym h))
+
+pub negative-refused : (to : Rounding) (m : ℕ) (e : ℤ) (scale : ℕ) → 0 < m → currentOf to (fin true m e) scale ≡ Refused
+unfolding currentOf
+negative-refused to m e scale h = simp (lt-ltb 0 m h)
+
+pub zero-refused : (to : Rounding) (s : Bool) (e : ℤ) (scale : ℕ) → currentOf to (fin s 0 e) scale ≡ Refused
+unfolding currentOf
+zero-refused to true e scale = zero-mA to e scale
+zero-refused to false e scale = zero-mA to e scale
+
+-- ---- so what is given is allowed
+
+abbrev pub InRange : Current → Type 0
+InRange (Milliamperes k) = T (allowed k)
+InRange Refused = Unit
+
+unless : (b : Bool) (w : ℕ) → InRange (cond b Refused (ifAllowed w))
+unless true w = tt
+unless false w = go (allowed w) refl
+  where
+    go : (b : Bool) → allowed w ≡ b → InRange (cond b (Milliamperes w) Refused)
+    go true e = passes (allowed w) e
+    go false e = tt
+
+pub current-in-range : (to : Rounding) (x : Float) (scale : ℕ) → InRange (currentOf to x scale)
+unfolding currentOf
+current-in-range to nan scale = tt
+current-in-range to (inf s) scale = tt
+current-in-range to (fin s m e) scale = unless (s && ltb 0 m) (wholeOf to (m * up e * scale) (down e))

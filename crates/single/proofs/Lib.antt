@@ -1,0 +1,5 @@
+pub mod CurrentLaws
+pub mod RoundLaws
+pub mod ScaleLaws
+pub mod ScreenLaws
+pub mod SizeLaws

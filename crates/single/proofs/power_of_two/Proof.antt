@@ -1,0 +1,18 @@
+-- `study::single::power_of_two` meets its contract: a one shifted by less than 64 places loses nothing. Assumes nothing.
+use native.Mathlib.Nat.{one-mul}
+use native.Mathlib.Omega.{arith}
+use mathlib.Core.Path.{_∙_}
+use lib.Pow.{shl-exact}
+use lib.Dec.{lit<}
+use borrow.Author.Needs.{needs}
+use Rattle.single.proofs.power_of_two.Statement.{statement}
+use Rattle.single.proofs.power_of_two.Tie as tie
+
+shl-result : tie.Need-shl-result
+shl-result c = search needs
+
+returns : tie.Need-returns
+returns c = shl-exact 1 (c .args .k) 64 (lit< tt) (omega arith) ∙ one-mul _
+
+pub power-of-two-spec : {M : Type 1} → statement M
+power-of-two-spec = tie.close (tie.spec shl-result returns)
