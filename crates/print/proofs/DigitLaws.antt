@@ -10,8 +10,8 @@ use lib.Dec.{ltb, lit≤}
 use lib.ListN.{length, length-append}
 use borrow.Author.Tests.{lt-ltb, le-ltb}
 use Rattle.grid.proofs.BoolLaws.{passes-or-fails}
-use Rattle.text.proofs.CaseLaws.{lt-or-le}
-use Rattle.text.specs.Pieces.{decimal}
+use Rattle.cursor.proofs.CaseLaws.{lt-or-le}
+use Rattle.cursor.specs.Pieces.{decimal}
 use Rattle.print.specs.Write.{lastDigit, lastDigits, digitsMost, numberText}
 
 pub digits-few : (k v : ℕ) → length (lastDigits k v) ≤ k

@@ -12,7 +12,7 @@ use borrow.Author.Tests.{le-leb, lt-leb, leb-true}
 use Rattle.grid.specs.Fold.{every}
 use Rattle.grid.proofs.BoolLaws.{and-left, and-right, not-both, fails}
 use Rattle.grid.proofs.FoldLaws.{every-at}
-use Rattle.text.specs.Pieces.{nameMost}
+use Rattle.cursor.specs.Pieces.{nameMost}
 use Rattle.text.specs.Names.{nameAtPlace}
 use Rattle.print.specs.Card.{cardCount, headerSize, lineMost, placeRight, printable, RowsFit}
 

@@ -10,7 +10,7 @@ use lib.ListN.{length, drop, getD, length-append}
 use lib.Seq.{drop-drop, take-append-seam}
 use borrow.Author.Tests.{le-leb, lt-leb}
 use Rattle.grid.proofs.FoldLaws.{every-at}
-use Rattle.text.specs.Pieces.{nameMost}
+use Rattle.cursor.specs.Pieces.{nameMost}
 use Rattle.text.specs.Names.{nameAtPlace, namesAt}
 use Rattle.print.specs.Write.{numberText, written, Wrote}
 use Rattle.print.specs.Card.{cardCount, lineMost, refusalMost, cardHeader, refusalHeader, lineEnd, lineText, rowsText, cardText, refusalText, placeRight, printable, Printed, cardPrinted, refusalPrinted}

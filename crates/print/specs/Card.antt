@@ -6,7 +6,7 @@ use Prim.Native.Nat.{ℕ, zero, suc, _+_, _-_, _*_, _/_, _≤_}
 use lib.Dec.{leb}
 use lib.ListN.{length, getD, take, drop}
 use Rattle.grid.specs.Fold.{every}
-use Rattle.text.specs.Pieces.{nameMost}
+use Rattle.cursor.specs.Pieces.{nameMost}
 use Rattle.text.specs.Names.{namesAt}
 use Rattle.print.specs.Write.{digitsMost, numberText, written}
 

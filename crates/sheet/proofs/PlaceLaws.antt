@@ -12,18 +12,18 @@ use lib.ListN.{length, getD, take, drop, length-append, length-drop, drop-of-len
 use lib.Seq.{drop-drop, length-take-le, take-take}
 use borrow.Author.Tests.{eqb-true, ltb-true, ltb-false}
 use Rattle.grid.proofs.BoolLaws.{and-left, and-right, passes-or-fails}
-use Rattle.text.specs.declared.Class.the-variants.{InLine}
+use Rattle.cursor.specs.declared.Class.the-variants.{InLine}
+use Rattle.cursor.specs.Bytes.{passes, run}
+use Rattle.cursor.specs.Pieces.{digits, isNumber, isName, nameLength, isComma}
+use Rattle.cursor.proofs.RunLaws.{run-length}
 use Rattle.text.specs.declared.Reading.the-variants.{BadLine, Rows}
-use Rattle.text.specs.Bytes.{passes, run}
 use Rattle.text.specs.Grammar.{Row, rowOf, rowsOf}
-use Rattle.text.specs.Line.{isComma, isNamed, isLine, numbersOf, nameStart, nameSize, areFields, afterName, moreFields}
+use Rattle.text.specs.Line.{isNamed, isLine, numbersOf, nameStart, nameSize, areFields, afterName, moreFields}
 use Rattle.text.specs.Names.{nameAtPlace, namesAt}
-use Rattle.text.specs.Pieces.{digits, isNumber, isName, nameLength}
 use Rattle.text.specs.Text.{lines, lineLength, afterLine, nextIsLine, goodLines, linesRead, sizeRight, headed, rowLines, reading, rowsRead, allNumbers, allPlaces, rowNumbers, rowPlaces}
 use Rattle.text.proofs.GrammarNames.{name-sound}
 use Rattle.text.proofs.GrammarText.{cut-some}
 use Rattle.text.proofs.LineLaws.{numbers-long}
-use Rattle.text.proofs.RunLaws.{run-length}
 
 drop-take : (m n : ℕ) (l : List ℕ) → drop m (take n l) ≡ take (n - m) (drop m l)
 drop-take zero n l = rw native.Mathlib.Nat.sub-zero

@@ -2,12 +2,12 @@
 use mathlib.Core.Path.{_≡_, refl}
 use mathlib.Core.List.{List, [], _∷_, _++_}
 use Prim.Native.Nat.{ℕ}
+use Rattle.cursor.specs.Bytes.{digitByte, plainByte, bareByte, crlf, passes, run}
+use Rattle.cursor.specs.Pieces.{digits, isNumber, plainPart, bareEnd, nameEnd, isFound, placeFound, isName, nameLength, isComma}
 use Rattle.text.specs.declared.Reading.the-variants.{Rows, BadLine}
-use Rattle.text.specs.Bytes.{digitByte, plainByte, bareByte, crlf, passes, run}
 use Rattle.text.specs.Header.{header}
-use Rattle.text.specs.Line.{isComma, isEnd, afterField, afterName, areFields, fieldsOf, isNamed, isLine, nameStart, nameSize}
+use Rattle.text.specs.Line.{isEnd, afterField, afterName, areFields, fieldsOf, isNamed, isLine, nameStart, nameSize}
 use Rattle.text.specs.Names.{nameAtPlace, namesAt}
-use Rattle.text.specs.Pieces.{digits, isNumber, plainPart, bareEnd, nameEnd, isFound, placeFound, isName, nameLength}
 use Rattle.text.specs.Text.{onto, lines, lineLength, afterLine, nextIsLine, goodLines, linesRead, same, sizeRight, headed, rowLines, reading, allPlaces, rowPlaces}
 
 unfoldable pub first : List ℕ

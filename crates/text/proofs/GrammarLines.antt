@@ -9,9 +9,9 @@ use lib.ListN.{length, take, drop, take-append-drop}
 use lib.Seq.{drop-append-seam, take-append-seam, drop-drop}
 use borrow.Author.Tests.{eqb-true}
 use Rattle.grid.proofs.BoolLaws.{and-left, and-right}
-use Rattle.text.specs.Bytes.{digitByte, passes, run}
-use Rattle.text.specs.Pieces.{digits, isNumber, numberOf, isName, nameLength}
-use Rattle.text.specs.Line.{moreFields, isComma, isEnd, afterField, afterName, areFields, fieldsOf, isNamed, isLine, numbersOf, nameStart, nameSize}
+use Rattle.cursor.specs.Bytes.{digitByte, passes, run}
+use Rattle.cursor.specs.Pieces.{digits, isNumber, numberOf, isName, nameLength, isComma}
+use Rattle.text.specs.Line.{moreFields, isEnd, afterField, afterName, areFields, fieldsOf, isNamed, isLine, numbersOf, nameStart, nameSize}
 use Rattle.text.specs.Grammar.{Fields, Row, Line, line, rowOf}
 use Rattle.text.proofs.GrammarNumbers.{number-sound, number-complete}
 use Rattle.text.proofs.GrammarNames.{name-sound, name-complete}

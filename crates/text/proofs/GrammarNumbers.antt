@@ -11,11 +11,11 @@ use lib.ListN.{length, take, getD, List·getD-append}
 use lib.Seq.{length-take-le, take-append-seam, getD-take}
 use borrow.Author.Tests.{le-leb, leb-true, ne-eqb, eqb-false, not-true}
 use Rattle.grid.proofs.BoolLaws.{and-left, and-right}
-use Rattle.text.specs.declared.Class.the-variants.{Digit}
-use Rattle.text.specs.Bytes.{digitByte, passes}
-use Rattle.text.specs.Pieces.{digits, isNumber, numberOf}
+use Rattle.cursor.specs.declared.Class.the-variants.{Digit}
+use Rattle.cursor.specs.Bytes.{digitByte, passes}
+use Rattle.cursor.specs.Pieces.{digits, isNumber, numberOf}
+use Rattle.cursor.proofs.RunLaws.{run-length}
 use Rattle.text.specs.Grammar.{All, IsNumber}
-use Rattle.text.proofs.RunLaws.{run-length}
 use Rattle.text.proofs.GrammarRuns.{run-all, run-append}
 
 digit-first : (b : ℕ) (l : List ℕ) → passes Digit (b ∷ l) ≡ true → digitByte b ≡ true

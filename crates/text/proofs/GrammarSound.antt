@@ -10,15 +10,15 @@ use lib.ListN.{length, take, drop, length-drop, take-append-drop, drop-of-length
 use lib.Seq.{drop-drop, take-all}
 use borrow.Author.Tests.{eqb-true, not-false}
 use Rattle.grid.proofs.BoolLaws.{and-left, and-right, passes-or-fails}
-use Rattle.text.specs.declared.Class.the-variants.{InLine}
-use Rattle.text.specs.Bytes.{crlf, passes, run}
+use Rattle.cursor.specs.declared.Class.the-variants.{InLine}
+use Rattle.cursor.specs.Bytes.{crlf, passes, run}
+use Rattle.cursor.proofs.CaseLaws.{lt-or-le}
+use Rattle.cursor.proofs.RunLaws.{run-end}
 use Rattle.text.specs.Line.{isLine}
 use Rattle.text.specs.Text.{lines, lineLength, afterLine, goodLines}
 use Rattle.text.specs.Grammar.{Line, Lines, rowOf}
-use Rattle.text.proofs.CaseLaws.{lt-or-le}
 use Rattle.text.proofs.GrammarLines.{line-sound}
 use Rattle.text.proofs.GrammarText.{cut-some}
-use Rattle.text.proofs.RunLaws.{run-end}
 use Rattle.text.proofs.RowAtLaws.{good-more, good-none}
 
 crlf-next : (l : List ℕ) → crlf l ≡ true → l ≡ 13 ∷ 10 ∷ drop 2 l

@@ -12,15 +12,15 @@ use lib.ListN.{length, take, drop, getD, drop-of-length-le, length-map}
 use lib.Seq.{getD-drop, drop-append-add, take-append-seam, take-length}
 use borrow.Author.Tests.{eqb-true, eq-eqb, eqb-false}
 use Rattle.grid.proofs.BoolLaws.{passes-or-fails, not-both}
+use Rattle.cursor.specs.Bytes.{run}
+use Rattle.cursor.proofs.RunLaws.{run-length, run-end, run-at}
 use Rattle.text.specs.declared.Reading.the-variants.{BadLine, Rows}
-use Rattle.text.specs.Bytes.{run}
 use Rattle.text.specs.Header.{header}
 use Rattle.text.specs.Line.{isLine}
 use Rattle.text.specs.Text.{textMost, lines, lineLength, afterLine, nextIsLine, goodLines, linesRead, same, sizeRight, headed, rowLines, reading}
 use Rattle.text.specs.Grammar.{All, Row, Line, Lines, Text, alone, rows, rowOf, rowsOf}
 use Rattle.text.proofs.GrammarLines.{line-sound, line-complete}
 use Rattle.text.proofs.GrammarText.{noCr, all-test, first-ends, only-ends, RowsThere, lines-complete}
-use Rattle.text.proofs.RunLaws.{run-length, run-end, run-at}
 use Rattle.text.proofs.SameLaws.{same-equal, same-refl}
 use Rattle.text.proofs.TextLaws.{size-right}
 use Rattle.text.proofs.GrammarSound.{split, lines-sound}

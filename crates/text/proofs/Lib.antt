@@ -1,9 +1,6 @@
 pub mod BlockLaws
-pub mod ByteLaws
-pub mod CaseLaws
-pub mod DecimalLaws
 pub mod ExampleLaws
-pub mod FieldLaws
+pub mod FieldsLaws
 pub mod GrammarLines
 pub mod GrammarNames
 pub mod GrammarNumbers
@@ -14,12 +11,8 @@ pub mod GrammarText
 pub mod GrammarTheorem
 pub mod HeaderLaws
 pub mod LineLaws
-pub mod NameLaws
-pub mod NumberLaws
-pub mod QuoteLaws
 pub mod RowAtLaws
 pub mod RowLaws
-pub mod RunLaws
 pub mod SameLaws
 pub mod TextLaws
 pub mod WalkLaws

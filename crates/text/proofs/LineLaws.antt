@@ -6,10 +6,10 @@ use Prim.Native.Nat.{ℕ, zero, suc, _+_}
 use native.Mathlib.Omega.{arith}
 use lib.Dec.{eqb}
 use lib.ListN.{length, take, drop}
-use Rattle.text.specs.declared.Class.the-variants.{InLine}
-use Rattle.text.specs.Bytes.{crlf, passes, run}
+use Rattle.cursor.specs.declared.Class.the-variants.{InLine}
+use Rattle.cursor.specs.Bytes.{crlf, passes, run}
+use Rattle.cursor.specs.Pieces.{digits}
 use Rattle.text.specs.Line.{fieldCount, moreFields, afterField, afterName, fieldsOf, numbersOf}
-use Rattle.text.specs.Pieces.{digits}
 use Rattle.text.specs.Text.{onto, lines, lineLength, afterLine}
 
 no-crlf : (b : ℕ) → crlf (b ∷ []) ≡ false

@@ -7,16 +7,16 @@ use native.Mathlib.Omega.{arith}
 use lib.ListN.{length, take, drop, getD, length-drop}
 use lib.Seq.{drop-drop, drop-cons, length-take-le}
 use Rattle.grid.proofs.BoolLaws.{not-both, fails}
-use Rattle.text.specs.declared.Class.the-variants.{InLine}
-use Rattle.text.specs.declared.Cursor.{Cursor}
+use Rattle.cursor.specs.declared.Class.the-variants.{InLine}
+use Rattle.cursor.specs.declared.Cursor.{Cursor}
+use Rattle.cursor.specs.Bytes.{passes, run}
+use Rattle.cursor.specs.Pieces.{moved}
+use Rattle.cursor.proofs.NameLaws.{window-long}
+use Rattle.cursor.proofs.RunLaws.{run-length}
 use Rattle.text.specs.declared.RowRead.{RowRead}
-use Rattle.text.specs.Bytes.{passes, run}
-use Rattle.text.specs.Pieces.{moved}
 use Rattle.text.specs.Line.{fieldCount, isLine, numbersOf, nameStart, nameSize, noRow, lineRow}
 use Rattle.text.specs.Text.{lines, lineLength, afterLine, goodLines, nextIsLine, roomFor}
 use Rattle.text.proofs.LineLaws.{lines-cut}
-use Rattle.text.proofs.NameLaws.{window-long}
-use Rattle.text.proofs.RunLaws.{run-length}
 
 -- the line at a cursor that stands inside the text, and where the next one starts
 abbrev pub lineAt : List ℕ → ℕ → List ℕ

@@ -1,18 +1,19 @@
 -- A line put together from its number, its name and its fields. Assumes nothing.
-use mathlib.Core.Path.{_≡_, refl, sym, ap, _∙_}
-use mathlib.Core.Bool.{Bool, true, false, cond}
+use mathlib.Core.Path.{_≡_, sym, ap, _∙_}
+use mathlib.Core.Bool.{true, false}
 use mathlib.Core.List.{List, _∷_}
 use Prim.Native.Nat.{ℕ, _+_, _-_}
 use native.Mathlib.Nat.{add-assoc, add-sub-cancel-left}
 use native.Mathlib.Omega.{arith}
 use lib.ListN.{drop}
 use lib.Seq.{drop-drop}
-use Rattle.text.specs.declared.Cursor.{Cursor}
-use Rattle.text.specs.declared.NameRead.the-variants.{Name, NoName}
-use Rattle.text.specs.declared.NumberRead.the-variants.{NoNumber}
-use Rattle.text.specs.Pieces.{moved, digits, numberAt, isName, nameLength, nameAt}
-use Rattle.text.specs.Line.{moreFields, isComma, areFields, fieldsOf, afterName, isNamed, isLine, numbersOf, nameStart, nameSize, noRow, fieldsRow, namedRow, lineRow}
-use Rattle.text.proofs.FieldLaws.{NumberWas, number-was-none}
+use Rattle.cursor.specs.declared.Cursor.{Cursor}
+use Rattle.cursor.specs.declared.NameRead.the-variants.{NoName}
+use Rattle.cursor.specs.declared.NumberRead.the-variants.{NoNumber}
+use Rattle.cursor.specs.Pieces.{moved, digits, numberAt, isName, nameLength, nameAt, isComma}
+use Rattle.cursor.proofs.NameLaws.{NameWas, name-was-none}
+use Rattle.cursor.proofs.NumberLaws.{NumberWas, number-was-none}
+use Rattle.text.specs.Line.{moreFields, areFields, fieldsOf, afterName, isNamed, isLine, numbersOf, nameStart, nameSize, noRow, fieldsRow, namedRow, lineRow}
 
 pub fields-bad : (name size n : ℕ) (l : List ℕ) → areFields moreFields l ≡ false → noRow ≡ fieldsRow name size n l
 unfolding fieldsRow
@@ -27,27 +28,6 @@ fields-good name size n l numbers h e = rw (h, e)
 pub named-no-comma : (i n : ℕ) (l : List ℕ) → isComma l ≡ false → noRow ≡ namedRow i n l
 unfolding namedRow isNamed
 named-no-comma i n l h = rw h
-
--- what a name that was read says, and what none says
-pub record NameWas (c : Cursor) (l : List ℕ) (d : Cursor) : Type 0 where
-  pub name : isName l ≡ true
-  pub past : d ≡ moved c (nameLength l)
-
-pub name-was : (c d : Cursor) (l : List ℕ) → Name d ≡ nameAt c l → NameWas c l d
-unfolding nameAt
-name-was c d l = by-test (isName l) refl
-  where
-    by-test : (t : Bool) → isName l ≡ t → Name d ≡ cond t (Name (moved c (nameLength l))) NoName → NameWas c l d
-    by-test true n e = record { name = n; past = cc }
-    by-test false n e = absurd (let z : _≡_ {A = ℕ} 0 1 = cc in omega arith)
-
-name-was-none : (c : Cursor) (l : List ℕ) → NoName ≡ nameAt c l → isName l ≡ false
-unfolding nameAt
-name-was-none c l = by-test (isName l) refl
-  where
-    by-test : (t : Bool) → isName l ≡ t → NoName ≡ cond t (Name (moved c (nameLength l))) NoName → isName l ≡ false
-    by-test true n e = absurd (let z : _≡_ {A = ℕ} 0 1 = cc in omega arith)
-    by-test false n e = n
 
 module _ (s : List ℕ) (c : Cursor) (n : ℕ) (k : isComma (drop (c .at) s) ≡ true) where
   pub named-no-name : NoName ≡ nameAt (moved c 1) (drop (c .at + 1) s) → noRow ≡ namedRow (c .at) n (drop (c .at) s)

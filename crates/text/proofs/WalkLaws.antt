@@ -7,12 +7,12 @@ use native.Mathlib.Nat.{add-zero}
 use native.Mathlib.Omega.{arith}
 use lib.ListN.{length, take, drop, length-append, length-drop, drop-of-length-le}
 use borrow.Author.Tests.{eq-eqb, ne-eqb}
-use Rattle.text.specs.declared.Cursor.{Cursor}
+use Rattle.cursor.specs.declared.Cursor.{Cursor}
+use Rattle.cursor.specs.Bytes.{run}
+use Rattle.cursor.specs.Pieces.{nextLine, moved}
 use Rattle.text.specs.declared.Reading.{Reading}
 use Rattle.text.specs.declared.Reading.the-variants.{BadLine, Rows}
 use Rattle.text.specs.declared.RowRead.{RowRead}
-use Rattle.text.specs.Bytes.{run}
-use Rattle.text.specs.Pieces.{nextLine, moved}
 use Rattle.text.specs.Line.{fieldCount, isLine, numbersOf, nameStart, nameSize, lineRow}
 use Rattle.text.specs.Text.{lines, lineLength, goodLines, linesRead, allNumbers, allPlaces, roomFor, keptIn, blocksOver, LinesTaken}
 use Rattle.text.proofs.BlockLaws.{block-behind, kept-next, kept-start}

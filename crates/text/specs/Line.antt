@@ -3,12 +3,9 @@ use mathlib.Core.Bool.{Bool, true, false, cond, _&&_}
 use mathlib.Core.List.{List, [], _∷_}
 use Prim.Native.Nat.{ℕ, zero, suc, _+_, _-_}
 use lib.Dec.{eqb}
-use lib.ListN.{length, getD, drop, replicate}
-use Rattle.text.specs.declared.Cursor.{Cursor}
-use Rattle.text.specs.declared.NumberRead.{NumberRead}
-use Rattle.text.specs.declared.NumberRead.the-variants.{NoNumber}
+use lib.ListN.{length, drop, replicate}
+use Rattle.cursor.specs.Pieces.{digits, isNumber, numberOf, isName, nameLength, isComma}
 use Rattle.text.specs.declared.RowRead.{RowRead}
-use Rattle.text.specs.Pieces.{moved, digits, isNumber, numberOf, numberAt, isName, nameLength}
 
 -- how many numbers a row has, its own among them [01 §2]
 abbrev pub fieldCount : ℕ
@@ -17,10 +14,6 @@ fieldCount = 18
 -- and how many of them stand behind the name
 abbrev pub moreFields : ℕ
 moreFields = fieldCount - 1
-
--- a comma comes next
-unfoldable pub isComma : List ℕ → Bool
-isComma l = eqb (getD l 0 0) 44
 
 -- nothing comes next
 unfoldable pub isEnd : List ℕ → Bool
@@ -61,10 +54,7 @@ nameStart l = digits l + 1
 unfoldable pub nameSize : List ℕ → ℕ
 nameSize l = nameLength (drop (nameStart l) l)
 
--- what the readers of a field, of the fields behind a name, of all behind the first number, and of a line answer
-unfoldable pub fieldAt : Cursor → List ℕ → NumberRead
-fieldAt c l = cond (isComma l) (numberAt (moved c 1) (drop 1 l)) NoNumber
-
+-- what the readers of the fields behind a name, of all behind the first number, and of a line answer
 abbrev pub noRow : RowRead
 noRow = record { good = false; name = 0; size = 0; numbers = replicate fieldCount 0 }
 

@@ -6,10 +6,10 @@ use Prim.Native.Nat.{ℕ, _+_, _*_, _/_, min}
 use lib.Dec.{leb, ltb, eqb}
 use lib.ListN.{length, getD, take, drop}
 use lib.Seq.{paste}
-use Rattle.text.specs.declared.Class.the-variants.{InLine}
+use Rattle.cursor.specs.declared.Class.the-variants.{InLine}
+use Rattle.cursor.specs.Bytes.{crlf, passes, run}
 use Rattle.text.specs.declared.Reading.{Reading}
 use Rattle.text.specs.declared.Reading.the-variants.{BadLine, Rows}
-use Rattle.text.specs.Bytes.{crlf, passes, run}
 use Rattle.text.specs.Header.{header}
 use Rattle.text.specs.Line.{fieldCount, isLine, numbersOf, nameStart, nameSize}
 

@@ -1,8 +1,9 @@
 // Reading the text of a list [01 §6].
-mod bytes;
 mod line;
-mod pieces;
 
+use cursor::Class;
+use cursor::Cursor;
+use line::row;
 ghost use mathlib.Core.Path.{_≡_};
 ghost use mathlib.Core.List.{[], _∷_};
 ghost use Prim.Native.Nat.{_+_, _*_, _<_, _≤_};
@@ -17,31 +18,6 @@ const TEXT_MOST: usize = 65536;
 
 // A row has so many numbers [01 §2].
 pub const FIELDS: usize = 18;
-
-// The bytes that a run is made of.
-pub enum Class {
-    Digit,
-    Bare,
-    InLine,
-}
-
-// A place in the text, and the line that it stands in.
-pub struct Cursor {
-    pub at: usize,
-    pub line: u64,
-}
-
-// A number with the cursor past it.
-pub enum NumberRead {
-    Number(u64, Cursor),
-    NoNumber,
-}
-
-// The cursor past a name.
-pub enum NameRead {
-    Name(Cursor),
-    NoName,
-}
 
 // A line read: its numbers, and where its name starts and how long it is. All 0 where the line is bad.
 pub struct RowRead {
@@ -137,11 +113,11 @@ fn read_rows(text: &[u8], from: Cursor, list: &mut [u64], names: &mut [u64]) -> 
     while c.at < text.len() {
         let past = c.skip(Class::InLine, text);
         let end = past.at;
-        let row = c.row(&text[..end]);
-        if !row.good {
+        let read = row(c, &text[..end]);
+        if !read.good {
             return Reading::BadLine(c.line);
         }
-        keep_row(list, names, room, n, row);
+        keep_row(list, names, room, n, read);
         c = past.next_line();
         n += 1;
     }

@@ -10,7 +10,7 @@ use lib.Seq.{length-take-le}
 use denote.Ref.{now}
 use borrow.Author.Tests.{not-true, not-false}
 use borrow.Author.Needs.{needs}
-use Rattle.text.specs.declared.Cursor.{Cursor}
+use Rattle.cursor.specs.declared.Cursor.{Cursor}
 use Rattle.text.specs.Text.{lineLength}
 use Rattle.text.proofs.WalkLaws.{Walk, walk-start, walk-step, walk-done, walk-bad}
 use Rattle.text.proofs.RowAtLaws.{row-was-not, line-inside, room-list, room-names}

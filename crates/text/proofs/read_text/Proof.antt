@@ -6,7 +6,7 @@ use lib.Seq.{length-take-le}
 use denote.Ref.{now}
 use borrow.Author.Tests.{not-true, not-false}
 use borrow.Author.Needs.{needs}
-use Rattle.text.specs.declared.Cursor.{Cursor}
+use Rattle.cursor.specs.declared.Cursor.{Cursor}
 use Rattle.text.specs.Text.{lineLength}
 use Rattle.text.proofs.RowAtLaws.{line-inside}
 use Rattle.text.proofs.TextLaws.{text-long, text-unheaded, text-rows, headed-is}
