@@ -16,14 +16,14 @@ use Rattle.cursor.specs.declared.Class.the-variants.{InLine}
 use Rattle.cursor.specs.Bytes.{passes, run}
 use Rattle.cursor.specs.Pieces.{digits, isNumber, isName, nameLength, isComma}
 use Rattle.cursor.proofs.RunLaws.{run-length}
+use Rattle.line.specs.Line.{isNamed, isLine, numbersOf, nameStart, nameSize, areFields, afterName, moreFields}
+use Rattle.line.proofs.RowLaws.{numbers-long}
 use Rattle.text.specs.declared.Reading.the-variants.{BadLine, Rows}
 use Rattle.text.specs.Grammar.{Row, rowOf, rowsOf}
-use Rattle.text.specs.Line.{isNamed, isLine, numbersOf, nameStart, nameSize, areFields, afterName, moreFields}
 use Rattle.text.specs.Names.{nameAtPlace, namesAt}
 use Rattle.text.specs.Text.{lines, lineLength, afterLine, nextIsLine, goodLines, linesRead, sizeRight, headed, rowLines, reading, rowsRead, allNumbers, allPlaces, rowNumbers, rowPlaces}
 use Rattle.text.proofs.GrammarNames.{name-sound}
 use Rattle.text.proofs.GrammarText.{cut-some}
-use Rattle.text.proofs.LineLaws.{numbers-long}
 
 drop-take : (m n : ℕ) (l : List ℕ) → drop m (take n l) ≡ take (n - m) (drop m l)
 drop-take zero n l = rw native.Mathlib.Nat.sub-zero

@@ -14,8 +14,8 @@ use Rattle.rows.specs.declared.Answer.the-variants.{Count}
 use Rattle.rows.specs.declared.Given.{Given}
 use Rattle.rows.specs.Answer.{givenBy}
 use Rattle.rows.proofs.TestLaws.{size-over}
+use Rattle.line.specs.Line.{fieldCount}
 use Rattle.text.specs.declared.Reading.the-variants.{BadLine, Rows}
-use Rattle.text.specs.Line.{fieldCount}
 use Rattle.text.specs.Names.{nameAtPlace, namesAt}
 use Rattle.text.specs.Text.{reading, readingNumber, readingPlace, rowNumbers, rowPlaces, over, blocksOver}
 use Rattle.print.specs.Card.{cardText, placeRight, printable, cardPrinted, refusalPrinted, Printed}

@@ -3,8 +3,8 @@ use mathlib.Core.Path.{_≡_}
 use mathlib.Core.List.{List}
 use Prim.Native.Nat.{ℕ, _≤_}
 use lib.ListN.{length}
+use Rattle.line.specs.Line.{fieldCount}
 use Rattle.text.specs.declared.Reading.the-variants.{Rows}
-use Rattle.text.specs.Line.{fieldCount}
 use Rattle.text.specs.Text.{reading, rowNumbers, rowPlaces, rowsRead, blocksOver}
 use Rattle.sheet.specs.Sheet.{sheetMost}
 

@@ -4,9 +4,9 @@ use mathlib.Core.List.{List, [], _∷_, _++_}
 use Prim.Native.Nat.{ℕ}
 use Rattle.cursor.specs.Bytes.{digitByte, plainByte, bareByte, crlf, passes, run}
 use Rattle.cursor.specs.Pieces.{digits, isNumber, plainPart, bareEnd, nameEnd, isFound, placeFound, isName, nameLength, isComma}
+use Rattle.line.specs.Line.{isEnd, afterField, afterName, areFields, fieldsOf, isNamed, isLine, nameStart, nameSize}
 use Rattle.text.specs.declared.Reading.the-variants.{Rows, BadLine}
 use Rattle.text.specs.Header.{header}
-use Rattle.text.specs.Line.{isEnd, afterField, afterName, areFields, fieldsOf, isNamed, isLine, nameStart, nameSize}
 use Rattle.text.specs.Names.{nameAtPlace, namesAt}
 use Rattle.text.specs.Text.{onto, lines, lineLength, afterLine, nextIsLine, goodLines, linesRead, same, sizeRight, headed, rowLines, reading, allPlaces, rowPlaces}
 

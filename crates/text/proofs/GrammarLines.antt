@@ -11,7 +11,7 @@ use borrow.Author.Tests.{eqb-true}
 use Rattle.grid.proofs.BoolLaws.{and-left, and-right}
 use Rattle.cursor.specs.Bytes.{digitByte, passes, run}
 use Rattle.cursor.specs.Pieces.{digits, isNumber, numberOf, isName, nameLength, isComma}
-use Rattle.text.specs.Line.{moreFields, isEnd, afterField, afterName, areFields, fieldsOf, isNamed, isLine, numbersOf, nameStart, nameSize}
+use Rattle.line.specs.Line.{moreFields, isEnd, afterField, afterName, areFields, fieldsOf, isNamed, isLine, numbersOf, nameStart, nameSize}
 use Rattle.text.specs.Grammar.{Fields, Row, Line, line, rowOf}
 use Rattle.text.proofs.GrammarNumbers.{number-sound, number-complete}
 use Rattle.text.proofs.GrammarNames.{name-sound, name-complete}

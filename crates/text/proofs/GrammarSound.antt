@@ -14,7 +14,7 @@ use Rattle.cursor.specs.declared.Class.the-variants.{InLine}
 use Rattle.cursor.specs.Bytes.{crlf, passes, run}
 use Rattle.cursor.proofs.CaseLaws.{lt-or-le}
 use Rattle.cursor.proofs.RunLaws.{run-end}
-use Rattle.text.specs.Line.{isLine}
+use Rattle.line.specs.Line.{isLine}
 use Rattle.text.specs.Text.{lines, lineLength, afterLine, goodLines}
 use Rattle.text.specs.Grammar.{Line, Lines, rowOf}
 use Rattle.text.proofs.GrammarLines.{line-sound}

@@ -14,9 +14,9 @@ use borrow.Author.Tests.{eqb-true, eq-eqb, eqb-false}
 use Rattle.grid.proofs.BoolLaws.{passes-or-fails, not-both}
 use Rattle.cursor.specs.Bytes.{run}
 use Rattle.cursor.proofs.RunLaws.{run-length, run-end, run-at}
+use Rattle.line.specs.Line.{isLine}
 use Rattle.text.specs.declared.Reading.the-variants.{BadLine, Rows}
 use Rattle.text.specs.Header.{header}
-use Rattle.text.specs.Line.{isLine}
 use Rattle.text.specs.Text.{textMost, lines, lineLength, afterLine, nextIsLine, goodLines, linesRead, same, sizeRight, headed, rowLines, reading}
 use Rattle.text.specs.Grammar.{All, Row, Line, Lines, Text, alone, rows, rowOf, rowsOf}
 use Rattle.text.proofs.GrammarLines.{line-sound, line-complete}

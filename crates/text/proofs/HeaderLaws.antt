@@ -2,8 +2,8 @@
 use mathlib.Core.Path.{_≡_, refl}
 use Prim.Native.Nat.{_+_}
 use lib.ListN.{length}
+use Rattle.line.specs.Line.{fieldCount}
 use Rattle.text.specs.Header.{columns}
-use Rattle.text.specs.Line.{fieldCount}
 
 pub columns-right : length columns ≡ fieldCount + 1
 columns-right = refl

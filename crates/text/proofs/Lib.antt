@@ -1,6 +1,5 @@
 pub mod BlockLaws
 pub mod ExampleLaws
-pub mod FieldsLaws
 pub mod GrammarLines
 pub mod GrammarNames
 pub mod GrammarNumbers
@@ -12,7 +11,6 @@ pub mod GrammarTheorem
 pub mod HeaderLaws
 pub mod LineLaws
 pub mod RowAtLaws
-pub mod RowLaws
 pub mod SameLaws
 pub mod TextLaws
 pub mod WalkLaws

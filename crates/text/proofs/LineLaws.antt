@@ -2,14 +2,12 @@
 use mathlib.Core.Path.{_≡_, refl, ap}
 use mathlib.Core.Bool.{Bool, true, false, cond, not, and-false}
 use mathlib.Core.List.{List, [], _∷_}
-use Prim.Native.Nat.{ℕ, zero, suc, _+_}
+use Prim.Native.Nat.{ℕ, suc, _+_}
 use native.Mathlib.Omega.{arith}
 use lib.Dec.{eqb}
-use lib.ListN.{length, take, drop}
+use lib.ListN.{take, drop}
 use Rattle.cursor.specs.declared.Class.the-variants.{InLine}
 use Rattle.cursor.specs.Bytes.{crlf, passes, run}
-use Rattle.cursor.specs.Pieces.{digits}
-use Rattle.text.specs.Line.{fieldCount, moreFields, afterField, afterName, fieldsOf, numbersOf}
 use Rattle.text.specs.Text.{onto, lines, lineLength, afterLine}
 
 no-crlf : (b : ℕ) → crlf (b ∷ []) ≡ false
@@ -34,12 +32,3 @@ lines-cut b (c ∷ s) = by-test (crlf (b ∷ c ∷ s)) refl (lines-cut c s)
     by-test false e h =
         let z : suc (more + 2) ≡ suc more + 2 = omega arith in
         rw h (ap (λ (k : ℕ). (b ∷ take more (c ∷ s)) ∷ lines (drop k (b ∷ c ∷ s))) z)
-
-fields-long : (k : ℕ) (l : List ℕ) → length (fieldsOf k l) ≡ k
-unfolding fieldsOf
-fields-long zero l = refl
-fields-long (suc k) l = ap suc (fields-long k (afterField l))
-
-pub numbers-long : (l : List ℕ) → length (numbersOf l) ≡ fieldCount
-unfolding numbersOf
-numbers-long l = ap suc (fields-long moreFields (afterName (drop (digits l) l)))

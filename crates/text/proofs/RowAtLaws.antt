@@ -13,8 +13,8 @@ use Rattle.cursor.specs.Bytes.{passes, run}
 use Rattle.cursor.specs.Pieces.{moved}
 use Rattle.cursor.proofs.NameLaws.{window-long}
 use Rattle.cursor.proofs.RunLaws.{run-length}
-use Rattle.text.specs.declared.RowRead.{RowRead}
-use Rattle.text.specs.Line.{fieldCount, isLine, numbersOf, nameStart, nameSize, noRow, lineRow}
+use Rattle.line.specs.declared.RowRead.{RowRead}
+use Rattle.line.specs.Line.{fieldCount, isLine, numbersOf, nameStart, nameSize, noRow, lineRow}
 use Rattle.text.specs.Text.{lines, lineLength, afterLine, goodLines, nextIsLine, roomFor}
 use Rattle.text.proofs.LineLaws.{lines-cut}
 

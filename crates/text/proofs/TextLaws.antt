@@ -7,10 +7,10 @@ use native.Mathlib.Nat.{zero-add}
 use lib.ListN.{length, take, drop}
 use borrow.Author.Tests.{le-leb, lt-leb}
 use Rattle.cursor.specs.declared.Cursor.{Cursor}
+use Rattle.line.specs.Line.{fieldCount}
 use Rattle.text.specs.declared.Reading.{Reading}
 use Rattle.text.specs.declared.Reading.the-variants.{BadLine}
 use Rattle.text.specs.Header.{header}
-use Rattle.text.specs.Line.{fieldCount}
 use Rattle.text.specs.Text.{textMost, lines, lineLength, afterLine, same, sizeRight, headed, rowLines, reading, rowsRead, rowNumbers, rowPlaces, roomFor, LinesTaken, TextTaken}
 use Rattle.text.proofs.BlockLaws.{kept-start}
 

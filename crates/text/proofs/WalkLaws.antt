@@ -10,13 +10,13 @@ use borrow.Author.Tests.{eq-eqb, ne-eqb}
 use Rattle.cursor.specs.declared.Cursor.{Cursor}
 use Rattle.cursor.specs.Bytes.{run}
 use Rattle.cursor.specs.Pieces.{nextLine, moved}
+use Rattle.line.specs.declared.RowRead.{RowRead}
+use Rattle.line.specs.Line.{fieldCount, isLine, numbersOf, nameStart, nameSize, lineRow}
+use Rattle.line.proofs.RowLaws.{numbers-long}
 use Rattle.text.specs.declared.Reading.{Reading}
 use Rattle.text.specs.declared.Reading.the-variants.{BadLine, Rows}
-use Rattle.text.specs.declared.RowRead.{RowRead}
-use Rattle.text.specs.Line.{fieldCount, isLine, numbersOf, nameStart, nameSize, lineRow}
 use Rattle.text.specs.Text.{lines, lineLength, goodLines, linesRead, allNumbers, allPlaces, roomFor, keptIn, blocksOver, LinesTaken}
 use Rattle.text.proofs.BlockLaws.{block-behind, kept-next, kept-start}
-use Rattle.text.proofs.LineLaws.{numbers-long}
 use Rattle.text.proofs.RowAtLaws.{lineAt, nextAt, cut-at, good-more, good-none, places-next, row-was}
 
 -- n lines are read, and the cursor stands at c; there is room for so many

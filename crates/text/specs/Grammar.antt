@@ -8,8 +8,8 @@ use Prim.Native.Nat.{ℕ, zero, suc, _≤_}
 use lib.ListN.{length, getD, take, drop}
 use Rattle.cursor.specs.Bytes.{digitByte, plainByte, bareByte}
 use Rattle.cursor.specs.Pieces.{decimal, nameMost}
+use Rattle.line.specs.Line.{moreFields, numbersOf, nameStart, nameSize}
 use Rattle.text.specs.Header.{header}
-use Rattle.text.specs.Line.{moreFields, numbersOf, nameStart, nameSize}
 use Rattle.text.specs.Text.{rowLines}
 
 -- every byte passes the test

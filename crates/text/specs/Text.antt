@@ -8,10 +8,10 @@ use lib.ListN.{length, getD, take, drop}
 use lib.Seq.{paste}
 use Rattle.cursor.specs.declared.Class.the-variants.{InLine}
 use Rattle.cursor.specs.Bytes.{crlf, passes, run}
+use Rattle.line.specs.Line.{fieldCount, isLine, numbersOf, nameStart, nameSize}
 use Rattle.text.specs.declared.Reading.{Reading}
 use Rattle.text.specs.declared.Reading.the-variants.{BadLine, Rows}
 use Rattle.text.specs.Header.{header}
-use Rattle.text.specs.Line.{fieldCount, isLine, numbersOf, nameStart, nameSize}
 
 -- a text has at most so many bytes
 abbrev pub textMost : ℕ

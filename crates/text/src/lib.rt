@@ -1,31 +1,20 @@
 // Reading the text of a list [01 §6].
-mod line;
-
 use cursor::Class;
 use cursor::Cursor;
+use line::FIELDS;
+use line::RowRead;
 use line::row;
 ghost use mathlib.Core.Path.{_≡_};
 ghost use mathlib.Core.List.{[], _∷_};
 ghost use Prim.Native.Nat.{_+_, _*_, _<_, _≤_};
 ghost use lib.ListN.{length, drop, take};
 ghost use lib.Seq.{paste};
+ghost use Rattle.line.specs.Line.{fieldCount};
 ghost use Rattle.text.specs.Header.{header};
-ghost use Rattle.text.specs.Line.{fieldCount};
 ghost use Rattle.text.specs.Text.{same, roomFor, keptIn, lines, LinesTaken, TextTaken};
 
 // A text has at most so many bytes.
 const TEXT_MOST: usize = 65536;
-
-// A row has so many numbers [01 §2].
-pub const FIELDS: usize = 18;
-
-// A line read: its numbers, and where its name starts and how long it is. All 0 where the line is bad.
-pub struct RowRead {
-    pub good: bool,
-    pub name: usize,
-    pub size: usize,
-    pub numbers: [u64; FIELDS],
-}
 
 // What reading a text gives: its first bad line, 0 where it is too long, or the number of its rows.
 pub enum Reading {

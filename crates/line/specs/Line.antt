@@ -5,7 +5,7 @@ use Prim.Native.Nat.{ℕ, zero, suc, _+_, _-_}
 use lib.Dec.{eqb}
 use lib.ListN.{length, drop, replicate}
 use Rattle.cursor.specs.Pieces.{digits, isNumber, numberOf, isName, nameLength, isComma}
-use Rattle.text.specs.declared.RowRead.{RowRead}
+use Rattle.line.specs.declared.RowRead.{RowRead}
 
 -- how many numbers a row has, its own among them [01 §2]
 abbrev pub fieldCount : ℕ

@@ -1,14 +1,23 @@
-// A line: the row's number, its name, the other fields [01 §6].
-use super::FIELDS;
-use super::RowRead;
+// Reading one line of a list: the row's number, its name, the other fields [01 §6].
 use cursor::Cursor;
 use cursor::NameRead;
 use cursor::NumberRead;
 ghost use mathlib.Core.Path.{_≡_};
 ghost use lib.ListN.{drop};
-ghost use Rattle.text.specs.Line.{noRow, fieldsRow, namedRow, lineRow};
+ghost use Rattle.line.specs.Line.{noRow, fieldsRow, namedRow, lineRow};
 
-pub(crate) fn no_row() -> RowRead
+// A row has so many numbers [01 §2].
+pub const FIELDS: usize = 18;
+
+// A line read: its numbers, and where its name starts and how long it is. All 0 where the line is bad.
+pub struct RowRead {
+    pub good: bool,
+    pub name: usize,
+    pub size: usize,
+    pub numbers: [u64; FIELDS],
+}
+
+fn no_row() -> RowRead
     ensures { λ r. ⌜ r ≡ noRow ⌝ }
 {
     RowRead {
@@ -20,7 +29,7 @@ pub(crate) fn no_row() -> RowRead
 }
 
 // The fields behind the name, and the end of the line.
-pub(crate) fn fields(from: Cursor, s: &[u8], name: usize, size: usize, first: u64) -> RowRead
+fn fields(from: Cursor, s: &[u8], name: usize, size: usize, first: u64) -> RowRead
     ensures { λ r. ⌜ r ≡ fieldsRow name size first (drop (from .at) (now (s .entry))) ⌝ }
 {
     let mut numbers = [0u64; FIELDS];
@@ -51,7 +60,7 @@ pub(crate) fn fields(from: Cursor, s: &[u8], name: usize, size: usize, first: u6
 }
 
 // What stands behind the first number: a comma, the name, the other fields.
-pub(crate) fn named(from: Cursor, s: &[u8], first: u64) -> RowRead
+fn named(from: Cursor, s: &[u8], first: u64) -> RowRead
     ensures { λ r. ⌜ r ≡ namedRow (from .at) first (drop (from .at) (now (s .entry))) ⌝ }
 {
     let at = from.at;
@@ -75,7 +84,7 @@ pub(crate) fn named(from: Cursor, s: &[u8], first: u64) -> RowRead
 }
 
 // The line from here to the end of `s`.
-pub(crate) fn row(from: Cursor, s: &[u8]) -> RowRead
+pub fn row(from: Cursor, s: &[u8]) -> RowRead
     ensures { λ r. ⌜ r ≡ lineRow (from .at) (drop (from .at) (now (s .entry))) ⌝ }
 {
     match from.number(s) {

@@ -7,11 +7,11 @@ use native.Mathlib.Nat.{le-refl}
 use native.Mathlib.Omega.{arith}
 use denote.Ref.{now}
 use borrow.Author.Needs.{needs}
-use Rattle.text.specs.Line.{fieldCount}
-use Rattle.text.proofs.FieldsLaws.{Read, read-more, read-fails, read-ends, read-all, end-there, end-not-there}
-use Rattle.text.proofs.RowLaws.{fields-bad, fields-good}
-use Rattle.text.proofs.line.fields.Statement.{statement}
-use Rattle.text.proofs.line.fields.Tie as tie
+use Rattle.line.specs.Line.{fieldCount}
+use Rattle.line.proofs.FieldsLaws.{Read, read-more, read-fails, read-ends, read-all, end-there, end-not-there}
+use Rattle.line.proofs.RowLaws.{fields-bad, fields-good}
+use Rattle.line.proofs.fields.Statement.{statement}
+use Rattle.line.proofs.fields.Tie as tie
 
 abbrev Inv-loop : tie.InvT-loop
 Inv-loop s name size first numbers₀ c₀ k₀ numbers c k = Read s (c₀ .at) first numbers c k

@@ -1,11 +1,11 @@
 -- A line put together from its number, its name and its fields. Assumes nothing.
-use mathlib.Core.Path.{_≡_, sym, ap, _∙_}
+use mathlib.Core.Path.{_≡_, refl, sym, ap, _∙_}
 use mathlib.Core.Bool.{true, false}
 use mathlib.Core.List.{List, _∷_}
-use Prim.Native.Nat.{ℕ, _+_, _-_}
+use Prim.Native.Nat.{ℕ, zero, suc, _+_, _-_}
 use native.Mathlib.Nat.{add-assoc, add-sub-cancel-left}
 use native.Mathlib.Omega.{arith}
-use lib.ListN.{drop}
+use lib.ListN.{length, drop}
 use lib.Seq.{drop-drop}
 use Rattle.cursor.specs.declared.Cursor.{Cursor}
 use Rattle.cursor.specs.declared.NameRead.the-variants.{NoName}
@@ -13,7 +13,7 @@ use Rattle.cursor.specs.declared.NumberRead.the-variants.{NoNumber}
 use Rattle.cursor.specs.Pieces.{moved, digits, numberAt, isName, nameLength, nameAt, isComma}
 use Rattle.cursor.proofs.NameLaws.{NameWas, name-was-none}
 use Rattle.cursor.proofs.NumberLaws.{NumberWas, number-was-none}
-use Rattle.text.specs.Line.{moreFields, areFields, fieldsOf, afterName, isNamed, isLine, numbersOf, nameStart, nameSize, noRow, fieldsRow, namedRow, lineRow}
+use Rattle.line.specs.Line.{fieldCount, moreFields, afterField, afterName, areFields, fieldsOf, isNamed, isLine, numbersOf, nameStart, nameSize, noRow, fieldsRow, namedRow, lineRow}
 
 pub fields-bad : (name size n : ℕ) (l : List ℕ) → areFields moreFields l ≡ false → noRow ≡ fieldsRow name size n l
 unfolding fieldsRow
@@ -62,3 +62,13 @@ line-read s c d v w =
     let p : drop 1 (drop (c .at + digits (drop (c .at) s)) s) ≡ drop (digits (drop (c .at) s) + 1) (drop (c .at) s) =
     drop-drop 1 (c .at + digits (drop (c .at) s)) s ∙ ap (λ (i : ℕ). drop i s) z ∙ sym (drop-drop (digits (drop (c .at) s) + 1) (c .at) s) in
     rw (w .number, q, w .value, w .past, p, add-assoc (c .at) (digits (drop (c .at) s)) 1)
+
+-- a line has as many numbers as a row
+fields-long : (k : ℕ) (l : List ℕ) → length (fieldsOf k l) ≡ k
+unfolding fieldsOf
+fields-long zero l = refl
+fields-long (suc k) l = ap suc (fields-long k (afterField l))
+
+pub numbers-long : (l : List ℕ) → length (numbersOf l) ≡ fieldCount
+unfolding numbersOf
+numbers-long l = ap suc (fields-long moreFields (afterName (drop (digits l) l)))

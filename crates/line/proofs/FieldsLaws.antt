@@ -12,7 +12,7 @@ use Rattle.cursor.specs.declared.Cursor.{Cursor}
 use Rattle.cursor.specs.declared.NumberRead.the-variants.{Number, NoNumber}
 use Rattle.cursor.specs.Pieces.{digits, fieldAt}
 use Rattle.cursor.proofs.FieldLaws.{FieldWas, field-was, field-was-none}
-use Rattle.text.specs.Line.{fieldCount, moreFields, isEnd, afterField, areFields, fieldsOf}
+use Rattle.line.specs.Line.{fieldCount, moreFields, isEnd, afterField, areFields, fieldsOf}
 
 -- k numbers are read, the cursor standing at c
 pub record Read (s : List ℕ) (at n : ℕ) (numbers : List ℕ) (c : Cursor) (k : ℕ) : Type 0 where

@@ -4,9 +4,9 @@ use mathlib.Core.Path.{sym, _∙_}
 use denote.Ref.{now}
 use borrow.Author.Needs.{needs}
 use Rattle.cursor.proofs.NumberLaws.{number-was}
-use Rattle.text.proofs.RowLaws.{line-no-number, line-read}
-use Rattle.text.proofs.line.row.Statement.{statement}
-use Rattle.text.proofs.line.row.Tie as tie
+use Rattle.line.proofs.RowLaws.{line-no-number, line-read}
+use Rattle.line.proofs.row.Statement.{statement}
+use Rattle.line.proofs.row.Tie as tie
 
 number-requires : tie.Need-number-requires
 number-requires c κs = search needs

@@ -7,9 +7,9 @@ use borrow.Author.Needs.{needs}
 use Rattle.cursor.specs.declared.Cursor.{Cursor}
 use Rattle.cursor.proofs.FieldLaws.{comma-over, comma-there, comma-not-there}
 use Rattle.cursor.proofs.NameLaws.{name-was}
-use Rattle.text.proofs.RowLaws.{named-no-comma, named-no-name, named-read}
-use Rattle.text.proofs.line.named.Statement.{statement}
-use Rattle.text.proofs.line.named.Tie as tie
+use Rattle.line.proofs.RowLaws.{named-no-comma, named-no-name, named-read}
+use Rattle.line.proofs.named.Statement.{statement}
+use Rattle.line.proofs.named.Tie as tie
 
 no-row-requires : tie.Need-no-row-requires
 no-row-requires c κs = search needs
