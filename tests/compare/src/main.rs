@@ -1,5 +1,6 @@
-//! `compare [--seed N] [--long]`: the proved library against the second
-//! program. `compare singles [--all]`: singles against doubles, a part or all.
+//! `compare [--seed N] [--short | --long]`: the proved library against the
+//! second program. `compare singles [--all]`: singles against doubles, a part
+//! or all.
 
 use compare::run::{Score, Seen};
 use compare::{changes, competing, lists, singles, studies, texts};
@@ -7,26 +8,33 @@ use std::process::ExitCode;
 use std::slice;
 use std::time::Instant;
 
-/// A step through the patterns that meets every exponent and many fractions.
-const STEP: u64 = 1_021;
 /// Fewer texts compared fail the run.
 const LEAST_TEXTS: u64 = 200_000;
-/// How much more a long run compares.
-const LONG: u64 = 10;
 
-const USAGE: &str = "compare [--seed N] [--long] | compare singles [--all]";
+/// How much a run compares.
+struct Length {
+    /// How often each kind's cases are taken, every time with other seeds.
+    times: u64,
+    /// The step through the patterns of singles; each meets every exponent.
+    step: u64,
+}
+
+const SHORT: Length = Length { times: 1, step: 1_021 };
+const GATE: Length = Length { times: 36, step: 31 };
+const LONG: Length = Length { times: 360, step: 3 };
+
+const USAGE: &str = "compare [--seed N] [--short | --long] | compare singles [--all]";
 
 fn main() -> ExitCode {
     let words: Vec<String> = std::env::args().skip(1).collect();
     let words: Vec<&str> = words.iter().map(String::as_str).collect();
     let command = match words[..] {
-        ["singles"] => Some(measure_singles(STEP)),
+        ["singles"] => Some(measure_singles(SHORT.step)),
         ["singles", "--all"] => Some(measure_singles(1)),
-        [] => Some(compare_all(1, 1)),
-        ["--long"] => Some(compare_all(1, LONG)),
-        ["--seed", seed] => seed.parse().ok().map(|seed| compare_all(seed, 1)),
-        ["--seed", seed, "--long"] => seed.parse().ok().map(|seed| compare_all(seed, LONG)),
-        _ => None,
+        ["--seed", seed, ref length @ ..] => {
+            seed.parse().ok().and_then(|seed| Some(compare_all(seed, named(length)?)))
+        }
+        ref length => named(length).map(|length| compare_all(1, length)),
     };
     command.unwrap_or_else(|| {
         eprintln!("{USAGE}");
@@ -34,7 +42,16 @@ fn main() -> ExitCode {
     })
 }
 
-fn compare_all(seed: u64, times: u64) -> ExitCode {
+fn named(length: &[&str]) -> Option<Length> {
+    match length {
+        [] => Some(GATE),
+        ["--short"] => Some(SHORT),
+        ["--long"] => Some(LONG),
+        _ => None,
+    }
+}
+
+fn compare_all(seed: u64, Length { times, step }: Length) -> ExitCode {
     println!("seed {seed}");
     let (mut score, mut whole) = (Score::default(), Seen::default());
     let (mut study, mut text, mut change) = (Seen::default(), Seen::default(), Seen::default());
@@ -54,7 +71,7 @@ fn compare_all(seed: u64, times: u64) -> ExitCode {
     let line = format!("{} texts, {} accepted", text.compared, text.accepted);
     score.count(text.compared >= LEAST_TEXTS, &line);
     texts::GROUPS.iter().for_each(|group| score.check(group, &text));
-    match singles::compare(STEP, false) {
+    match singles::compare(step, false) {
         Ok(compared) => score.count(true, &format!("singles, a part of all: {compared} compared")),
         Err(difference) => score.count(false, &format!("singles: {difference}")),
     }
