@@ -15,9 +15,9 @@ use Prim.Native.Nat.{ℕ, _+_, _-_, _*_, _≤_, _<_}
 use native.Mathlib.Omega.{arith}
 use lib.ListN.{length, getD}
 use Rattle.grid.proofs.BoolLaws.{fails}
-use Rattle.rows.specs.declared.Answer.{Answer}
-use Rattle.rows.specs.declared.Answer.the-variants.{Done, Edit}
-use Rattle.rows.specs.declared.Tested.the-variants.{Passed}
+use Rattle.answers.specs.declared.Answer.{Answer}
+use Rattle.answers.specs.declared.Answer.the-variants.{Done, Edit}
+use Rattle.answers.specs.declared.Tested.the-variants.{Passed}
 use Rattle.row.specs.Row.{rows}
 use Rattle.rows.specs.Tests.{sizeTest}
 use Rattle.work.specs.Card.{pickupIn, delayIn, cutoffIn}

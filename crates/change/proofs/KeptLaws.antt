@@ -8,10 +8,10 @@ use lib.Dec.{eqb}
 use lib.ListN.{length, getD}
 use borrow.Author.Tests.{eq-eqb}
 use Rattle.grid.proofs.BoolLaws.{not-both}
-use Rattle.rows.specs.declared.Answer.{Answer}
-use Rattle.rows.specs.declared.Answer.the-variants.{Done}
-use Rattle.rows.specs.declared.Tested.the-variants.{Passed}
-use Rattle.rows.specs.Answer.{givenBy}
+use Rattle.answers.specs.declared.Answer.{Answer}
+use Rattle.answers.specs.declared.Answer.the-variants.{Done}
+use Rattle.answers.specs.declared.Tested.the-variants.{Passed}
+use Rattle.answers.specs.Answer.{givenBy}
 use Rattle.row.specs.Row.{rows}
 use Rattle.rows.specs.Tests.{sizeTest, rowsTest}
 use Rattle.rows.proofs.InRangeLaws.{passed-feeds}

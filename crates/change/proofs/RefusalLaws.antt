@@ -8,11 +8,11 @@ use lib.Dec.{eqb, leb}
 use Rattle.grid.specs.declared.Found.{Found}
 use Rattle.grid.specs.declared.Found.the-variants.{At, Nothing}
 use Rattle.grid.specs.First.{first}
-use Rattle.rows.specs.declared.Answer.{Answer}
-use Rattle.rows.specs.declared.Answer.the-variants.{Done, Count, Room, Edit}
-use Rattle.rows.specs.declared.Tested.{Tested}
-use Rattle.rows.specs.declared.Tested.the-variants.{Passed, Refused}
-use Rattle.rows.specs.Answer.{givenBy}
+use Rattle.answers.specs.declared.Answer.{Answer}
+use Rattle.answers.specs.declared.Answer.the-variants.{Done, Count, Room, Edit}
+use Rattle.answers.specs.declared.Tested.{Tested}
+use Rattle.answers.specs.declared.Tested.the-variants.{Passed, Refused}
+use Rattle.answers.specs.Answer.{givenBy}
 use Rattle.rows.specs.Tests.{sizeTest, rowsTest, fieldAnswer, treeTest, treeAnswer}
 use Rattle.settle.specs.declared.Outcome.{Outcome}
 use Rattle.settle.specs.declared.Settled.{Settled}

@@ -9,8 +9,8 @@ use lib.ListN.{length, getD}
 use borrow.Author.Tests.{eqb-true, leb-true, le-leb, eq-eqb}
 use Rattle.grid.specs.First.{first}
 use Rattle.grid.proofs.BoolLaws.{and-left, and-right, and-both, fails}
-use Rattle.rows.specs.declared.Answer.the-variants.{Edit}
-use Rattle.rows.specs.declared.Tested.the-variants.{Passed, Refused}
+use Rattle.answers.specs.declared.Answer.the-variants.{Edit}
+use Rattle.answers.specs.declared.Tested.the-variants.{Passed, Refused}
 use Rattle.row.specs.Row.{rows, field}
 use Rattle.change.specs.Replace.{editRight, editTest}
 

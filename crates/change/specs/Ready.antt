@@ -3,9 +3,9 @@ use mathlib.Core.Path.{_≡_}
 use mathlib.Core.List.{List}
 use Prim.Native.Nat.{ℕ, _+_, _*_, _≤_}
 use lib.ListN.{length}
-use Rattle.rows.specs.declared.Answer.{Answer}
-use Rattle.rows.specs.declared.Given.{Given}
-use Rattle.rows.specs.Answer.{givenBy}
+use Rattle.answers.specs.declared.Answer.{Answer}
+use Rattle.answers.specs.declared.Given.{Given}
+use Rattle.answers.specs.Answer.{givenBy}
 use Rattle.path.specs.Ready.{ReworkReady}
 use Rattle.change.specs.Replace.{putList, reworked, outcome, Replaced}
 

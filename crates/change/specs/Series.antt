@@ -4,9 +4,9 @@ use mathlib.Core.List.{List, [], _∷_}
 use Prim.Native.Nat.{ℕ, _-_, _*_}
 use lib.Dec.{eqb}
 use lib.ListN.{replicate}
-use Rattle.rows.specs.declared.Answer.{Answer}
-use Rattle.rows.specs.declared.Answer.the-variants.{Edit}
-use Rattle.rows.specs.Answer.{givenBy}
+use Rattle.answers.specs.declared.Answer.{Answer}
+use Rattle.answers.specs.declared.Answer.the-variants.{Edit}
+use Rattle.answers.specs.Answer.{givenBy}
 use Rattle.row.specs.Row.{rows}
 use Rattle.whole.specs.Whole.{whole}
 use Rattle.change.specs.Replace.{putList, editRight, replaced}

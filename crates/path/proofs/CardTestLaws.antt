@@ -11,8 +11,8 @@ use Rattle.grid.specs.declared.Found.the-variants.{At, Nothing}
 use Rattle.grid.specs.First.{first}
 use Rattle.grid.proofs.BoolLaws.{and-left, and-right, and-both, fails}
 use Rattle.grid.proofs.FirstLaws.{first-none, first-nothing}
-use Rattle.rows.specs.declared.Answer.the-variants.{Card}
-use Rattle.rows.specs.declared.Tested.the-variants.{Passed, Refused}
+use Rattle.answers.specs.declared.Answer.the-variants.{Card}
+use Rattle.answers.specs.declared.Tested.the-variants.{Passed, Refused}
 use Rattle.row.specs.Row.{rows}
 use Rattle.work.specs.Card.{pickupIn, delayIn, cutoffIn}
 use Rattle.path.specs.declared.Numbers.{Numbers}

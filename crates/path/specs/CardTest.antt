@@ -6,9 +6,9 @@ use lib.Dec.{leb}
 use Rattle.grid.specs.declared.Found.{Found}
 use Rattle.grid.specs.declared.Found.the-variants.{At, Nothing}
 use Rattle.grid.specs.First.{first}
-use Rattle.rows.specs.declared.Answer.the-variants.{Card}
-use Rattle.rows.specs.declared.Tested.{Tested}
-use Rattle.rows.specs.declared.Tested.the-variants.{Passed, Refused}
+use Rattle.answers.specs.declared.Answer.the-variants.{Card}
+use Rattle.answers.specs.declared.Tested.{Tested}
+use Rattle.answers.specs.declared.Tested.the-variants.{Passed, Refused}
 use Rattle.row.specs.Row.{rows}
 use Rattle.work.specs.Card.{pickupIn, delayIn, cutoffIn}
 

@@ -8,9 +8,9 @@ use lib.ListN.{getD}
 use Rattle.grid.specs.declared.Found.{Found}
 use Rattle.grid.specs.declared.Found.the-variants.{At, Nothing}
 use Rattle.grid.specs.First.{first}
-use Rattle.rows.specs.declared.Answer.the-variants.{Count, Room, Field, Tree}
-use Rattle.rows.specs.declared.Tested.{Tested}
-use Rattle.rows.specs.declared.Tested.the-variants.{Passed, Refused}
+use Rattle.answers.specs.declared.Answer.the-variants.{Count, Room, Field, Tree}
+use Rattle.answers.specs.declared.Tested.{Tested}
+use Rattle.answers.specs.declared.Tested.the-variants.{Passed, Refused}
 use Rattle.row.specs.Row.{rows, field}
 
 -- the least and the greatest number allowed in each field, in the order of section 2's table

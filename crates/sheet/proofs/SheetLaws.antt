@@ -10,9 +10,9 @@ use lib.Seq.{take-all, take-at, drop-append-le, length-take-le}
 use borrow.Author.Tests.{le-leb, lt-leb, eq-eqb, ne-eqb}
 use Rattle.grid.proofs.BoolLaws.{and-both}
 use Rattle.grid.proofs.FoldLaws.{every-of}
-use Rattle.rows.specs.declared.Answer.the-variants.{Count}
-use Rattle.rows.specs.declared.Given.{Given}
-use Rattle.rows.specs.Answer.{givenBy}
+use Rattle.answers.specs.declared.Answer.the-variants.{Count}
+use Rattle.answers.specs.declared.Given.{Given}
+use Rattle.answers.specs.Answer.{givenBy}
 use Rattle.rows.proofs.TestLaws.{size-over}
 use Rattle.line.specs.Line.{fieldCount}
 use Rattle.text.specs.declared.Reading.the-variants.{BadLine, Rows}

@@ -2,8 +2,8 @@
 use mathlib.Core.Path.{_≡_}
 use mathlib.Core.List.{List}
 use Prim.Native.Nat.{ℕ}
-use Rattle.rows.specs.declared.Given.{Given}
-use Rattle.rows.specs.Answer.{givenBy}
+use Rattle.answers.specs.declared.Given.{Given}
+use Rattle.answers.specs.Answer.{givenBy}
 use Rattle.change.specs.Replace.{Replaced}
 use Rattle.whole.specs.Whole.{Result}
 use Rattle.surfpocket.specs.declared.SurfpocketAnswer.{SurfpocketAnswer}

@@ -15,9 +15,9 @@ use borrow.Author.Tests.{lt-ltb, le-ltb, ltb-true, ltb-false, eqb-true, eqb-fals
 use Rattle.grid.specs.Fold.{maxTo}
 use Rattle.grid.proofs.BoolLaws.{passes-or-fails, not-both, same-test}
 use Rattle.grid.proofs.FoldLaws.{sumTo-zero, maxTo-bound}
-use Rattle.rows.specs.declared.Answer.{Answer}
-use Rattle.rows.specs.declared.Tested.{Tested}
-use Rattle.rows.specs.declared.Tested.the-variants.{Passed, Refused}
+use Rattle.answers.specs.declared.Answer.{Answer}
+use Rattle.answers.specs.declared.Tested.{Tested}
+use Rattle.answers.specs.declared.Tested.the-variants.{Passed, Refused}
 use Rattle.row.specs.Row.{rows, rowAt}
 use Rattle.rows.proofs.InRangeLaws.{passed-in-range, passed-feeds}
 use Rattle.settle.specs.declared.Settled.{Settled}

@@ -18,10 +18,10 @@ use Rattle.grid.specs.declared.Found.{Found}
 use Rattle.grid.specs.declared.Found.the-variants.{At, Nothing}
 use Rattle.grid.proofs.BoolLaws.{passes-or-fails}
 use Rattle.grid.proofs.GridLaws.{Least, leastOn-least, leastOn-is}
-use Rattle.rows.specs.declared.Answer.the-variants.{Done}
+use Rattle.answers.specs.declared.Answer.the-variants.{Done}
 use Rattle.row.specs.declared.Row.{Row}
-use Rattle.rows.specs.declared.Tested.{Tested}
-use Rattle.rows.specs.declared.Tested.the-variants.{Passed, Refused}
+use Rattle.answers.specs.declared.Tested.{Tested}
+use Rattle.answers.specs.declared.Tested.the-variants.{Passed, Refused}
 use Rattle.row.specs.Row.{rows, rowAt}
 use Rattle.rows.specs.InRange.{InRange, Feeds}
 use Rattle.rows.specs.Tests.{sizeTest, rowsTest}

@@ -9,8 +9,8 @@ use lib.ListN.{length}
 use Rattle.grid.specs.Grid.{Available}
 use Rattle.grid.proofs.BoolLaws.{fails, not-both}
 use Rattle.grid.proofs.GridLaws.{leastOn-nothing}
-use Rattle.rows.specs.declared.Answer.{Answer}
-use Rattle.rows.specs.declared.Answer.the-variants.{Pickup, Delay}
+use Rattle.answers.specs.declared.Answer.{Answer}
+use Rattle.answers.specs.declared.Answer.the-variants.{Pickup, Delay}
 use Rattle.row.specs.Row.{rows, rowAt}
 use Rattle.rows.specs.InRange.{InRange, Feeds}
 use Rattle.rows.proofs.InRangeLaws.{row-bounded}

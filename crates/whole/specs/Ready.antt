@@ -3,10 +3,10 @@ use mathlib.Core.Path.{_≡_}
 use mathlib.Core.List.{List}
 use Prim.Native.Nat.{ℕ, _*_, _≤_}
 use lib.ListN.{length, getD}
-use Rattle.rows.specs.declared.Answer.{Answer}
-use Rattle.rows.specs.declared.Given.{Given}
-use Rattle.rows.specs.declared.Tested.the-variants.{Passed}
-use Rattle.rows.specs.Answer.{givenBy}
+use Rattle.answers.specs.declared.Answer.{Answer}
+use Rattle.answers.specs.declared.Given.{Given}
+use Rattle.answers.specs.declared.Tested.the-variants.{Passed}
+use Rattle.answers.specs.Answer.{givenBy}
 use Rattle.row.specs.Row.{rows}
 use Rattle.rows.specs.Tests.{rowsTest}
 use Rattle.whole.specs.Whole.{Result}

@@ -4,10 +4,10 @@
 use mathlib.Core.List.{List}
 use Prim.Native.Nat.{ℕ}
 use lib.ListN.{length}
-use Rattle.rows.specs.declared.Answer.{Answer}
-use Rattle.rows.specs.declared.Answer.the-variants.{Done}
-use Rattle.rows.specs.declared.Tested.{Tested}
-use Rattle.rows.specs.declared.Tested.the-variants.{Passed, Refused}
+use Rattle.answers.specs.declared.Answer.{Answer}
+use Rattle.answers.specs.declared.Answer.the-variants.{Done}
+use Rattle.answers.specs.declared.Tested.{Tested}
+use Rattle.answers.specs.declared.Tested.the-variants.{Passed, Refused}
 use Rattle.row.specs.Row.{rows}
 use Rattle.rows.specs.Tests.{sizeTest, rowsTest}
 use Rattle.work.specs.WorkOut.{Worked, finished, refused, workOut, upFrom}

@@ -1,9 +1,9 @@
 // The whole calculation of a lent list, on a lent card [01 §4].
 use row::FIELDS;
-use rows::Answer;
-use rows::Given;
-use rows::Tested;
-use rows::numbers;
+use answers::Answer;
+use answers::Given;
+use answers::Tested;
+use answers::numbers;
 use rows::test_rows;
 use rows::test_size;
 use work::work_row;
@@ -11,7 +11,7 @@ ghost use mathlib.Core.Path.{_≡_};
 ghost use mathlib.Core.List.{_++_};
 ghost use Prim.Native.Nat.{_≤_};
 ghost use lib.ListN.{length, take, drop};
-ghost use Rattle.rows.specs.Answer.{givenBy};
+ghost use Rattle.answers.specs.Answer.{givenBy};
 ghost use Rattle.whole.specs.Ready.{AllReady, Answered, Gave};
 ghost use Rattle.whole.specs.Whole.{calculation, workedAs, whole};
 

@@ -4,7 +4,7 @@ use mathlib.Core.List.{List}
 use Prim.Native.Nat.{ℕ, _+_, _-_, _*_, _≤_}
 use lib.ListN.{length}
 use Rattle.row.specs.declared.Row.{Row}
-use Rattle.rows.specs.declared.Tested.{Tested}
+use Rattle.answers.specs.declared.Tested.{Tested}
 use Rattle.row.specs.Row.{rowAt}
 use Rattle.rows.specs.InRange.{Bounded}
 use Rattle.settle.specs.Fed.{FedBounded}

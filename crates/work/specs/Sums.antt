@@ -5,9 +5,9 @@ use Prim.Native.Nat.{ℕ, _+_, _-_, _*_, max}
 use lib.Dec.{eqb}
 use lib.ListN.{getD, set}
 use Rattle.row.specs.declared.Row.{Row}
-use Rattle.rows.specs.declared.Answer.the-variants.{Pickup, Delay}
-use Rattle.rows.specs.declared.Tested.{Tested}
-use Rattle.rows.specs.declared.Tested.the-variants.{Passed, Refused}
+use Rattle.answers.specs.declared.Answer.the-variants.{Pickup, Delay}
+use Rattle.answers.specs.declared.Tested.{Tested}
+use Rattle.answers.specs.declared.Tested.the-variants.{Passed, Refused}
 use Rattle.row.specs.Row.{rowAt}
 use Rattle.settle.specs.declared.Fed.{Fed}
 use Rattle.settle.specs.declared.Settled.{Settled}

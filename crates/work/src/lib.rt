@@ -3,8 +3,8 @@
 use grid::greater;
 use row::Row;
 use row::row_at;
-use rows::Answer;
-use rows::Tested;
+use answers::Answer;
+use answers::Tested;
 use settle::Fed;
 use settle::Outcome;
 use settle::Settled;

@@ -2,7 +2,7 @@
 -- Assumes nothing.
 use borrow.Author.Needs.{needs}
 use mathlib.Core.Path.{ap, _∙_}
-use Rattle.rows.specs.Answer.{givenBy}
+use Rattle.answers.specs.Answer.{givenBy}
 use Rattle.whole.proofs.whole.Statement.{statement}
 use Rattle.whole.proofs.whole.Tie as tie
 

@@ -1,10 +1,10 @@
--- `rows::numbers` meets its contract: each case of the answer has the numbers that `givenBy` says.
+-- `answers::numbers` meets its contract: each case of the answer has the numbers that `givenBy` says.
 -- Assumes nothing.
 use borrow.Author.Needs.{needs}
 use mathlib.Core.Path.{sym, ap}
-use Rattle.rows.specs.Answer.{givenBy}
-use Rattle.rows.proofs.numbers.Statement.{statement}
-use Rattle.rows.proofs.numbers.Tie as tie
+use Rattle.answers.specs.Answer.{givenBy}
+use Rattle.answers.proofs.numbers.Statement.{statement}
+use Rattle.answers.proofs.numbers.Tie as tie
 
 enum-told : tie.Need-enum-told
 enum-told c = search needs

@@ -1,8 +1,8 @@
 -- [01 §4] The number, the place and, for FIELD, the field of each answer. Definitions only.
 use Prim.Native.Nat.{ℕ}
-use Rattle.rows.specs.declared.Answer.{Answer}
-use Rattle.rows.specs.declared.Answer.the-variants.{Done, Count, Room, Field, Tree, Pickup, Delay, Card, Edit}
-use Rattle.rows.specs.declared.Given.{Given}
+use Rattle.answers.specs.declared.Answer.{Answer}
+use Rattle.answers.specs.declared.Answer.the-variants.{Done, Count, Room, Field, Tree, Pickup, Delay, Card, Edit}
+use Rattle.answers.specs.declared.Given.{Given}
 
 -- number, place, field
 abbrev pub numbered : ℕ → ℕ → ℕ → Given
