@@ -1,12 +1,12 @@
 // The replacement of one row of a lent list, on a lent card [01 §4].
-use path::test_card;
-use path::work_path;
-use row::FIELDS;
-use row::field_at;
 use answers::Answer;
 use answers::Given;
 use answers::Tested;
 use answers::numbers;
+use path::test_card;
+use path::work_path;
+use row::FIELDS;
+use row::field_at;
 use rows::test_rows;
 use rows::test_size;
 ghost use mathlib.Core.Path.{_≡_};

@@ -1,8 +1,5 @@
-pub mod ByteLaws
-pub mod CaseLaws
 pub mod DecimalLaws
 pub mod FieldLaws
 pub mod NameLaws
 pub mod NumberLaws
 pub mod QuoteLaws
-pub mod RunLaws

@@ -1,14 +1,14 @@
 // A cursor's way past the pieces of a line: runs, numbers, names [01 §6].
-use super::Class;
 use super::Cursor;
 use super::NameRead;
 use super::NumberRead;
-use super::bytes::passes_at;
-use super::bytes::plain_byte;
+use bytes::Class;
+use bytes::passes_at;
+use bytes::plain_byte;
 ghost use mathlib.Core.Path.{_≡_};
 ghost use Prim.Native.Nat.{_-_, _<_};
 ghost use lib.ListN.{drop, take};
-ghost use Rattle.cursor.specs.Bytes.{passes, run};
+ghost use Rattle.bytes.specs.Bytes.{passes, run};
 ghost use Rattle.cursor.specs.Digits.{Digits};
 ghost use Rattle.cursor.specs.Pieces.{moved, nextLine, decimal, numberAt, nameAt, nameTo, nameEnd, plainPart, quotePart};
 

@@ -11,7 +11,7 @@ use Rattle.grid.specs.declared.Found.{Found}
 use Rattle.grid.specs.declared.Found.the-variants.{At, Nothing}
 use Rattle.grid.specs.First.{first}
 use Rattle.grid.specs.Grid.{Available, count, valueAt, leastOn}
-use Rattle.grid.proofs.BoolLaws.{passes-or-fails, not-both, fails, and-left, and-right, and-both}
+use Rattle.grid.proofs.BoolLaws.{passes-or-fails, lt-or-le, not-both, fails, and-left, and-right, and-both}
 use Rattle.grid.proofs.FirstLaws.{first-at, first-nothing}
 
 -- m steps are available exactly where they end at or below high
@@ -26,9 +26,6 @@ pub within-count : (low high step m : ℕ) → 0 < step → low + m * step ≤ h
 unfolding count
 within-count low high step m p h =
     le-div-iff-mul-le p .1 (rw suc-mul (omega arith))
-
-le-or-lt : (a b : ℕ) → (a ≤ b) ⊎ (b < a)
-le-or-lt a b = ⊎-elim (λ e. inl (leb-true a b e)) (λ e. inr (leb-false a b e)) (passes-or-fails (leb a b))
 
 module _ (low high step : ℕ) (p : 0 < step) (ok : ℕ → Bool) where
   -- what a value that was found is: available, passing, the least such
@@ -53,10 +50,10 @@ module _ (low high step : ℕ) (p : 0 < step) (ok : ℕ → Bool) where
         least =
             λ y a t.
             ⊎-elim
-            (λ (g : m ≤ a .steps). let k = mul-le-mul-right step g in omega (arith, a .on-grid))
             (λ (l : a .steps < m).
             absurd (not-both (rw (a .on-grid) at t) (r .before (a .steps) (omega arith) l)))
-            (le-or-lt m (a .steps));
+            (λ (g : m ≤ a .steps). let k = mul-le-mul-right step g in omega (arith, a .on-grid))
+            (lt-or-le (a .steps) m);
       }
   least-found Nothing x e q = absurd (let z : _≡_ {A = ℕ} 0 1 = cc in omega arith)
 
@@ -175,11 +172,11 @@ module _ (low high step b from : ℕ) (p : 0 < step) (q : from ≡ max low b) wh
     nearest y a t =
         let g = above y a t in
         ⊎-elim
-        (λ (l : n .steps ≤ a .steps). let k = mul-le-mul-right step l in omega (arith, a .on-grid, n .on-grid))
         (λ (l : a .steps < n .steps).
         let k = mul-le-mul-right step l in
         absurd (omega (arith, suc-mul (a .steps) step, a .on-grid, n .on-grid, n .near)))
-        (le-or-lt (n .steps) (a .steps))
+        (λ (l : n .steps ≤ a .steps). let k = mul-le-mul-right step l in omega (arith, a .on-grid, n .on-grid))
+        (lt-or-le (a .steps) (n .steps))
 
     pub leastOn-next : from + u ≤ high → leastOn low high step (leb b) ≡ At (from + u)
     leastOn-next h =

@@ -1,10 +1,10 @@
 // A row's path worked out again on a lent card: the tests of the card's numbers, and the climb from the row to the source [01 §4].
+use answers::Answer;
+use answers::Tested;
 use grid::Found;
 use row::FIELDS;
 use row::field_at;
 use row::row_at;
-use answers::Answer;
-use answers::Tested;
 use work::push;
 use work::work_row;
 ghost use mathlib.Core.Path.{_≡_};

@@ -1,6 +1,6 @@
 // The C boundary: the functions of include/surfpocket.h. Each calls one proved entry and hands its numbers on.
-use change::replace;
 use answers::Given;
+use change::replace;
 use sheet::sheet;
 use study::Quantity;
 use study::Reading;

@@ -1,5 +1,5 @@
 // Reading the text of a list [01 §6].
-use cursor::Class;
+use bytes::Class;
 use cursor::Cursor;
 use line::FIELDS;
 use line::RowRead;

@@ -1,9 +1,9 @@
 // The whole calculation of a lent list, on a lent card [01 §4].
-use row::FIELDS;
 use answers::Answer;
 use answers::Given;
 use answers::Tested;
 use answers::numbers;
+use row::FIELDS;
 use rows::test_rows;
 use rows::test_size;
 use work::work_row;

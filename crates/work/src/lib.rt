@@ -1,10 +1,10 @@
 // One row worked out on a lent card. What a row's fed rows ask of it is kept in `sums`, four numbers a row, and each
 // row that is worked out adds its own for the row that feeds it: so no row looks at its fed rows again.
+use answers::Answer;
+use answers::Tested;
 use grid::greater;
 use row::Row;
 use row::row_at;
-use answers::Answer;
-use answers::Tested;
 use settle::Fed;
 use settle::Outcome;
 use settle::Settled;

@@ -1,11 +1,17 @@
 // The bytes of section 6 [01 §6].
-use super::Class;
 ghost use mathlib.Core.Path.{_≡_};
 ghost use Prim.Native.Nat.{_<_};
 ghost use lib.ListN.{length, drop};
-ghost use Rattle.cursor.specs.Bytes.{digitByte, plainByte, bareByte, crlf, passes};
+ghost use Rattle.bytes.specs.Bytes.{digitByte, plainByte, bareByte, crlf, passes};
 
-pub(crate) fn digit_byte(b: u8) -> bool
+// The bytes that a run is made of.
+pub enum Class {
+    Digit,
+    Bare,
+    InLine,
+}
+
+fn digit_byte(b: u8) -> bool
     ensures { λ r. ⌜ r ≡ digitByte b ⌝ }
 {
     if b < 48 {
@@ -14,7 +20,7 @@ pub(crate) fn digit_byte(b: u8) -> bool
     b <= 57
 }
 
-pub(crate) fn plain_byte(b: u8) -> bool
+pub fn plain_byte(b: u8) -> bool
     ensures { λ r. ⌜ r ≡ plainByte b ⌝ }
 {
     if b < 32 {
@@ -26,7 +32,7 @@ pub(crate) fn plain_byte(b: u8) -> bool
     b != 34
 }
 
-pub(crate) fn bare_byte(b: u8) -> bool
+fn bare_byte(b: u8) -> bool
     ensures { λ r. ⌜ r ≡ bareByte b ⌝ }
 {
     if b == 44 {
@@ -35,7 +41,7 @@ pub(crate) fn bare_byte(b: u8) -> bool
     plain_byte(b)
 }
 
-pub(crate) fn crlf_at(s: &[u8], i: usize) -> bool
+fn crlf_at(s: &[u8], i: usize) -> bool
     requires { ⌜ i < length (now s) ⌝ }
     ensures { λ r. ⌜ r ≡ crlf (drop i (now (s .entry))) ⌝ }
 {
@@ -49,7 +55,7 @@ pub(crate) fn crlf_at(s: &[u8], i: usize) -> bool
     s[next] == 10
 }
 
-pub(crate) fn passes_at(class: Class, s: &[u8], i: usize) -> bool
+pub fn passes_at(class: Class, s: &[u8], i: usize) -> bool
     requires { ⌜ i < length (now s) ⌝ }
     ensures { λ r. ⌜ r ≡ passes class (drop i (now (s .entry))) ⌝ }
 {

@@ -2,9 +2,9 @@
 -- Assumes nothing.
 use borrow.Author.Tests.{eq-eqb, ne-eqb}
 use borrow.Author.Needs.{needs}
-use Rattle.cursor.specs.Bytes.{bareByte}
-use Rattle.cursor.proofs.bytes.bare_byte.Statement.{statement}
-use Rattle.cursor.proofs.bytes.bare_byte.Tie as tie
+use Rattle.bytes.specs.Bytes.{bareByte}
+use Rattle.bytes.proofs.bare_byte.Statement.{statement}
+use Rattle.bytes.proofs.bare_byte.Tie as tie
 
 returns : tie.Need-returns
 unfolding bareByte
