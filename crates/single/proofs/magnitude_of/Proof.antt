@@ -1,4 +1,4 @@
--- `study::single::magnitude_of` meets its contract: the fields of the bits are read as the single again, and `at-zero` and `above-zero` give its
+-- `single::magnitude_of` meets its contract: the fields of the bits are read as the single again, and `at-zero` and `above-zero` give its
 -- size in each branch. Assumes nothing.
 use mathlib.Core.Path.{sym, _∙_}
 use lib.Dec.{T}

@@ -1,4 +1,4 @@
--- `study::single::whole_current` meets its contract: a single that a comparison sends away is refused by section 5 too (`below-zero`, `too-great`), and
+-- `single::whole_current` meets its contract: a single that a comparison sends away is refused by section 5 too (`below-zero`, `too-great`), and
 -- the mA of any other are its size's (`by-size`), which the fraction of `scaled` rounds alike. Assumes nothing.
 use mathlib.Core.Path.{_≡_, sym, ap, _∙_}
 use mathlib.Core.Bool.{Bool, cond}
