@@ -13,7 +13,8 @@ use Rattle.work.specs.WorkOut.{onSettled, workOut, upFrom}
 use Rattle.whole.specs.Whole.{ending, after, calculation, whole}
 use Rattle.cases.specs.Cases.{Starred, comes, starred, table, twoRows, twoCard, blank, firstRow, underOne, pickups}
 use Rattle.path.specs.Path.{pathFrom, pathOf}
-use Rattle.change.specs.Replace.{putList, editRight, editTest, onPassed, reworked, outcome, replaced}
+use Rattle.edit.specs.Edit.{putList, editRight, editTest}
+use Rattle.change.specs.Replace.{onPassed, reworked, outcome, replaced}
 use Rattle.path.specs.CardTest.{cardRight, cardAnswer, cardTest}
 
 pub cases : map (λ (s : Starred). comes (s .case)) table ≡ map (λ (s : Starred). s .is) table

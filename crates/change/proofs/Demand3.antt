@@ -24,15 +24,16 @@ use Rattle.work.specs.Card.{pickupIn, delayIn, cutoffIn}
 use Rattle.work.specs.WorkOut.{Worked, finished, refused}
 use Rattle.whole.specs.Whole.{Result, ending, whole}
 use Rattle.path.specs.Path.{pathOf, onPath}
-use Rattle.change.specs.Replace.{putList, editRight, reworked, Replaced, outcome, replaced}
+use Rattle.edit.specs.Edit.{putList, editRight}
+use Rattle.change.specs.Replace.{reworked, Replaced, outcome, replaced}
 use Rattle.change.specs.Series.{Request, replacements, entered, Ledger, ledger, putDone}
 use Rattle.change.proofs.AcceptLaws.{accepts}
 use Rattle.change.proofs.EditedLaws.{edited-put}
 use Rattle.change.proofs.KeptLaws.{replaces, replaced-list, refused-keeps, workOut-keeps, off-outside, past-outside}
-use Rattle.change.proofs.PutLaws.{putList-before, putList-after}
+use Rattle.edit.proofs.PutLaws.{putList-before, putList-after}
 use Rattle.change.proofs.RefusalLaws.{Refuses, refuses-done, later-edit, reworked-later}
 use Rattle.change.proofs.SeriesLaws.{one-agrees, replaced-edit, replaced-edited, replaced-made, whole-made, made, made-answer, made-refuses}
-use Rattle.change.proofs.TestLaws.{edit-fits}
+use Rattle.edit.proofs.TestLaws.{edit-fits}
 
 -- what holds after a series, the card being c₀ at the start and c after the whole calculation of l
 pub record AfterSeries (l c₀ c : List ℕ) (series : List Request) : Type 0 where

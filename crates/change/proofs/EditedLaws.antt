@@ -12,10 +12,10 @@ use borrow.Author.Tests.{eqb-true, eqb-false, ltb-true, ltb-false}
 use Rattle.grid.proofs.BoolLaws.{passes-or-fails}
 use Rattle.row.specs.Row.{rows, field, rowAt}
 use Rattle.path.specs.Path.{pathFrom, pathOf, onPath, has}
-use Rattle.change.specs.Ready.{PutReady}
-use Rattle.change.specs.Replace.{putList}
-use Rattle.change.proofs.PutLaws.{putList-length, putList-before, putList-within, putList-after}
-use Rattle.change.proofs.TestLaws.{EditFits}
+use Rattle.edit.specs.Edit.{PutReady}
+use Rattle.edit.specs.Edit.{putList}
+use Rattle.edit.proofs.PutLaws.{putList-length, putList-before, putList-within, putList-after}
+use Rattle.edit.proofs.TestLaws.{EditFits}
 
 -- two lists with the same feeding rows have the same paths
 paths-same : (l l′ : List ℕ) → rows l ≡ rows l′ → ((j : ℕ) → field l j 1 ≡ field l′ j 1) → (i : ℕ) → pathOf l i ≡ pathOf l′ i

@@ -23,11 +23,12 @@ use Rattle.work.specs.Card.{pickupIn, delayIn, putRow}
 use Rattle.work.specs.WorkOut.{Worked, finished, refused, onSettled, workOut}
 use Rattle.work.proofs.CardLaws.{putRow-length, putRow-other}
 use Rattle.path.specs.Path.{pathOf, has, onPath}
-use Rattle.change.specs.Replace.{putList, editTest, onPassed, reworked, outcome, replaced}
+use Rattle.edit.specs.Edit.{putList, editTest}
+use Rattle.change.specs.Replace.{onPassed, reworked, outcome, replaced}
 use Rattle.change.proofs.EditedLaws.{edited-rows, edited-is-row, edited-path}
 use Rattle.path.proofs.PathLaws.{on-within}
 use Rattle.change.proofs.RefusalLaws.{Refuses, refuses-done, size-refuses, edit-refuses, reworked-later, passed-refused, passed-finished}
-use Rattle.change.proofs.TestLaws.{EditFits, edit-passed}
+use Rattle.edit.proofs.TestLaws.{EditFits, edit-passed}
 
 -- a number of the card that belongs to no row of `is`
 unfoldable pub Outside : List ℕ → ℕ → Type 0

@@ -3,9 +3,7 @@ pub mod Demand3
 pub mod EditedLaws
 pub mod EntryLaws
 pub mod KeptLaws
-pub mod PutLaws
 pub mod RefusalLaws
 pub mod ReworkLaws
 pub mod SeriesLaws
 pub mod SkipLaws
-pub mod TestLaws

@@ -20,7 +20,8 @@ use Rattle.settle.specs.declared.Settled.the-variants.{Set, NoPickup, NoDelay}
 use Rattle.settle.specs.Settle.{settled}
 use Rattle.work.specs.Card.{pickupIn, delayIn, putRow}
 use Rattle.work.specs.WorkOut.{Worked, finished, refused, onSettled, workOut}
-use Rattle.change.specs.Replace.{editRight, editTest, onPassed, reworked}
+use Rattle.edit.specs.Edit.{editRight, editTest}
+use Rattle.change.specs.Replace.{onPassed, reworked}
 use Rattle.path.specs.CardTest.{cardTest, cardAnswer}
 
 -- a refusal: its number is not 0

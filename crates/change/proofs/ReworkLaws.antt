@@ -17,13 +17,14 @@ use Rattle.work.specs.Card.{pickupIn, delayIn}
 use Rattle.whole.specs.Whole.{calculation}
 use Rattle.whole.proofs.FrameLaws.{settled-same, calculation-keeps}
 use Rattle.path.specs.Path.{onPath}
-use Rattle.change.specs.Replace.{putList, onPassed, reworked}
+use Rattle.edit.specs.Edit.{putList}
+use Rattle.change.specs.Replace.{onPassed, reworked}
 use Rattle.path.specs.CardTest.{cardTest}
 use Rattle.change.proofs.AcceptLaws.{Accepts, settled-fits, accepted-room, accepted-length, rows-settled}
 use Rattle.change.proofs.EditedLaws.{edited-rows, edited-is-row, edited-row, edited-feeder}
 use Rattle.path.proofs.PathLaws.{on-self}
 use Rattle.change.proofs.SkipLaws.{Rests, fed-off, calculation-path, calculation-same}
-use Rattle.change.proofs.TestLaws.{EditFits}
+use Rattle.edit.proofs.TestLaws.{EditFits}
 use Rattle.path.proofs.CardTestLaws.{fits-pass}
 
 module _ (l c₀ c : List ℕ) (x : Accepts l c₀ c) (place : ℕ) (row : List ℕ) (f : EditFits l place row) where

@@ -19,13 +19,14 @@ use Rattle.rows.proofs.TestLaws.{size-passed, size-right}
 use Rattle.work.specs.WorkOut.{Worked, finished, refused}
 use Rattle.whole.specs.Whole.{Result, ending, calculation, whole}
 use Rattle.whole.proofs.FrameLaws.{framed, calculation-frame}
-use Rattle.change.specs.Replace.{putList, editRight, onPassed, reworked, Replaced, outcome, replaced}
+use Rattle.edit.specs.Edit.{putList, editRight}
+use Rattle.change.specs.Replace.{onPassed, reworked, Replaced, outcome, replaced}
 use Rattle.change.specs.Series.{Entry, calculated, kept, entered}
 use Rattle.change.proofs.AcceptLaws.{whole-as, calculation-later, Accepts, accepts, accepted-length}
 use Rattle.change.proofs.EditedLaws.{edited-length}
 use Rattle.change.proofs.RefusalLaws.{Refuses}
 use Rattle.change.proofs.ReworkLaws.{reworked-whole}
-use Rattle.change.proofs.TestLaws.{EditFits, edit-fits, edit-passes, edit-refuses}
+use Rattle.edit.proofs.TestLaws.{EditFits, edit-fits, fits-edit, edit-passes, edit-refuses}
 
 -- the answer of the whole calculation does not depend on the card, where it has room
 answer-same : (l c c′ : List ℕ) → sizeTest (length l) (length c) ≡ Passed → sizeTest (length l) (length c′) ≡ Passed → whole l c .answer ≡ whole l c′ .answer
@@ -49,7 +50,7 @@ edit-cases l place row f g = ⊎-elim (λ e. f (edit-fits l place row e) e) g (p
 -- EDIT applies
 pub replaced-edit : (l c : List ℕ) (place : ℕ) (row : List ℕ) → sizeTest (length l) (length c) ≡ Passed → editRight l place row ≡ false → replaced l c place row ≡ record { answer = Edit; list = l; card = c }
 unfolding replaced onPassed outcome
-replaced-edit l c place row s e = rw (s, sym (edit-refuses l place row (λ f. not-both (Rattle.change.proofs.TestLaws.fits-edit l place row f) e)))
+replaced-edit l c place row s e = rw (s, sym (edit-refuses l place row (λ f. not-both (fits-edit l place row f) e)))
 
 -- EDIT does not apply
 pub replaced-edited : (l c : List ℕ) (place : ℕ) (row : List ℕ) → sizeTest (length l) (length c) ≡ Passed → EditFits l place row → replaced l c place row ≡ outcome l c (putList l (place - 1) row) (reworked (putList l (place - 1) row) (place - 1) c)

@@ -1,18 +1,14 @@
 -- What the functions of a replacement ask of their callers, and the shape of their promises. Definitions only.
 use mathlib.Core.Path.{_≡_}
 use mathlib.Core.List.{List}
-use Prim.Native.Nat.{ℕ, _+_, _*_, _≤_}
+use Prim.Native.Nat.{ℕ}
 use lib.ListN.{length}
 use Rattle.answers.specs.declared.Answer.{Answer}
 use Rattle.answers.specs.declared.Given.{Given}
 use Rattle.answers.specs.Answer.{givenBy}
 use Rattle.path.specs.Ready.{ReworkReady}
-use Rattle.change.specs.Replace.{putList, reworked, outcome, Replaced}
-
--- row i of the list can be written: 18 numbers in the place of 18
-pub record PutReady (l : List ℕ) (i : ℕ) (row : List ℕ) : Type 0 where
-  pub in-list : i * 18 + 18 ≤ length l
-  pub row-length : length row ≡ 18
+use Rattle.edit.specs.Edit.{putList}
+use Rattle.change.specs.Replace.{reworked, outcome, Replaced}
 
 pub record ExchangeReady (l : List ℕ) (i : ℕ) (c row : List ℕ) : Type 0 where
   pub rework : ReworkReady l i c

@@ -1,32 +1,18 @@
 -- [01 §4] The replacement of one row of a list lent as numbers, on a card lent as numbers: the answer, and the list and
 -- the card afterwards. The order is 2, 3, 10, then 4 and 5 over the list as it would be, then 9 over all rows, then 6 and 7
 -- along the path, the card rows off the path read as they are found. A refusal leaves list and card. Definitions only.
-use mathlib.Core.Bool.{Bool, cond, _&&_}
-use mathlib.Core.List.{List, _++_}
-use Prim.Native.Nat.{ℕ, _+_, _-_, _*_}
-use lib.Dec.{leb, eqb}
-use lib.ListN.{length, getD, take, drop}
+use mathlib.Core.List.{List}
+use Prim.Native.Nat.{ℕ, _-_}
+use lib.ListN.{length}
 use Rattle.answers.specs.declared.Answer.{Answer}
-use Rattle.answers.specs.declared.Answer.the-variants.{Done, Edit}
+use Rattle.answers.specs.declared.Answer.the-variants.{Done}
 use Rattle.answers.specs.declared.Tested.{Tested}
 use Rattle.answers.specs.declared.Tested.the-variants.{Passed, Refused}
-use Rattle.row.specs.Row.{rows, field}
 use Rattle.rows.specs.Tests.{sizeTest, rowsTest}
 use Rattle.work.specs.WorkOut.{Worked, finished, refused, workOut}
+use Rattle.edit.specs.Edit.{putList, editTest}
 use Rattle.path.specs.Path.{pathOf}
 use Rattle.path.specs.CardTest.{cardTest}
-
--- the list with a new row in the place of row i, counted from 0
-unfoldable pub putList : List ℕ → ℕ → List ℕ → List ℕ
-putList l i row = take (i * 18) l ++ row ++ drop (i * 18 + 18) l
-
--- 10 EDIT: the place is that of a row, the new row is 18 numbers, its field 1 is the place, its field 2 is the list's there
-unfoldable pub editRight : List ℕ → ℕ → List ℕ → Bool
-editRight l place row =
-    (leb 1 place && leb place (rows l)) && (eqb (length row) 18 && (eqb (getD row 0 0) place && eqb (getD row 1 0) (field l (place - 1) 1)))
-
-unfoldable pub editTest : List ℕ → ℕ → List ℕ → Tested
-editTest l place row = cond (editRight l place row) Passed (Refused Edit)
 
 -- a test passed goes on with what is next
 unfoldable pub onPassed : Tested → Worked → Worked

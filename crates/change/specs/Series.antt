@@ -9,7 +9,8 @@ use Rattle.answers.specs.declared.Answer.the-variants.{Edit}
 use Rattle.answers.specs.Answer.{givenBy}
 use Rattle.row.specs.Row.{rows}
 use Rattle.whole.specs.Whole.{whole}
-use Rattle.change.specs.Replace.{putList, editRight, replaced}
+use Rattle.edit.specs.Edit.{putList, editRight}
+use Rattle.change.specs.Replace.{replaced}
 
 -- a place and the new row for it
 pub record Request : Type 0 where

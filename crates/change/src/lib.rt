@@ -3,54 +3,16 @@ use answers::Answer;
 use answers::Given;
 use answers::Tested;
 use answers::numbers;
+use edit::put_list;
+use edit::test_edit;
 use path::test_card;
 use path::work_path;
 use row::FIELDS;
-use row::field_at;
 use rows::test_rows;
 use rows::test_size;
-ghost use mathlib.Core.Path.{_≡_};
-ghost use Prim.Native.Nat.{_+_, _-_, _*_, _<_};
-ghost use Rattle.row.specs.Row.{rows};
 ghost use Rattle.path.specs.Ready.{ReworkReady, Reworked};
-ghost use Rattle.change.specs.Ready.{PutReady, ExchangeReady, exchanged, Exchanged, Gave};
-ghost use Rattle.change.specs.Replace.{putList, editTest, reworked, replaced};
-
-// Writes a row in the place of row i.
-fn put_list(list: &mut [u64], i: usize, row: &[u64])
-    requires { ⌜ PutReady (now list) i (now row) ⌝ }
-    ensures { λ _. ⌜ now (list .exit) ≡ putList (now (list .entry)) i (now (row .entry)) ⌝ }
-{
-    let at = i * FIELDS;
-    let mut k = 0;
-    while k < FIELDS {
-        list[at + k] = row[k];
-        k += 1;
-    }
-}
-
-// 10 EDIT.
-fn test_edit(list: &[u64], place: u64, row: &[u64]) -> Tested
-    ensures { λ t. ⌜ t ≡ editTest (now (list .entry)) place (now (row .entry)) ⌝ }
-{
-    let n = list.len() / FIELDS;
-    if place < 1 {
-        return Tested::Refused(Answer::Edit);
-    }
-    if (n as u64) < place {
-        return Tested::Refused(Answer::Edit);
-    }
-    if row.len() != FIELDS {
-        return Tested::Refused(Answer::Edit);
-    }
-    if row[0] != place {
-        return Tested::Refused(Answer::Edit);
-    }
-    if row[1] != field_at(list, (place - 1) as usize, 1) {
-        return Tested::Refused(Answer::Edit);
-    }
-    Tested::Passed
-}
+ghost use Rattle.change.specs.Ready.{ExchangeReady, exchanged, Exchanged, Gave};
+ghost use Rattle.change.specs.Replace.{reworked, replaced};
 
 // Row i of the list is new: 4, 5, 9, then 6 and 7 along its path.
 fn rework(list: &[u64], i: usize, card: &mut [u64]) -> Tested

@@ -12,7 +12,7 @@ use Rattle.grid.proofs.BoolLaws.{and-left, and-right, and-both, fails}
 use Rattle.answers.specs.declared.Answer.the-variants.{Edit}
 use Rattle.answers.specs.declared.Tested.the-variants.{Passed, Refused}
 use Rattle.row.specs.Row.{rows, field}
-use Rattle.change.specs.Replace.{editRight, editTest}
+use Rattle.edit.specs.Edit.{editRight, editTest}
 
 -- what EDIT asks of a place and a new row
 pub record EditFits (l : List ℕ) (place : ℕ) (row : List ℕ) : Type 0 where

@@ -4,9 +4,9 @@ use Prim.Native.Nat.{_≤_, _-_, _*_}
 use native.Mathlib.Omega.{arith}
 use lib.Seq.{paste}
 use lib.ListN.{length}
-use Rattle.change.proofs.PutLaws.{put-none, put-more, put-length, put-end}
-use Rattle.change.proofs.put_list.Statement.{statement}
-use Rattle.change.proofs.put_list.Tie as tie
+use Rattle.edit.proofs.PutLaws.{put-none, put-more, put-length, put-end}
+use Rattle.edit.proofs.put_list.Statement.{statement}
+use Rattle.edit.proofs.put_list.Tie as tie
 
 abbrev Inv-loop : tie.InvT-loop
 Inv-loop list₀ i row at k₀ list k = (k ≤ 18) × (list ≡ paste list₀ (i * 18) row k)

@@ -2,9 +2,9 @@
 use mathlib.Core.Path.{sym, _∙_}
 use native.Mathlib.Omega.{arith}
 use borrow.Author.Needs.{needs}
-use Rattle.change.proofs.TestLaws.{edit-passes, edit-refuses}
-use Rattle.change.proofs.test_edit.Statement.{statement}
-use Rattle.change.proofs.test_edit.Tie as tie
+use Rattle.edit.proofs.TestLaws.{edit-passes, edit-refuses}
+use Rattle.edit.proofs.test_edit.Statement.{statement}
+use Rattle.edit.proofs.test_edit.Tie as tie
 
 returns : tie.Need-returns
 returns c = edit-refuses _ _ _ (λ f. omega (arith, f .from))

@@ -6,8 +6,8 @@ use native.Mathlib.Numerals.{add-one}
 use native.Mathlib.Omega.{arith}
 use lib.ListN.{length, getD, take, drop, set, length-append, List·getD-append, take-append-drop}
 use lib.Seq.{paste, paste-zero, paste-suc, length-paste, take-all, take-at, drop-at, drop-drop, length-take-le, getD-append-add, getD-take, getD-drop}
-use Rattle.change.specs.Ready.{PutReady}
-use Rattle.change.specs.Replace.{putList}
+use Rattle.edit.specs.Edit.{PutReady}
+use Rattle.edit.specs.Edit.{putList}
 
 -- the loop that writes a row: after k fields
 module _ (l : List ℕ) (i : ℕ) (row : List ℕ) (h : PutReady l i row) where
