@@ -20,8 +20,8 @@ struct Length {
 }
 
 const SHORT: Length = Length { times: 1, step: 1_021 };
-const GATE: Length = Length { times: 36, step: 31 };
-const LONG: Length = Length { times: 360, step: 3 };
+const GATE: Length = Length { times: 10, step: 1 };
+const LONG: Length = Length { times: 100, step: 1 };
 
 const USAGE: &str = "compare [--seed N] [--short | --long] | compare singles [--all]";
 
@@ -72,7 +72,7 @@ fn compare_all(seed: u64, Length { times, step }: Length) -> ExitCode {
     score.count(text.compared >= LEAST_TEXTS, &line);
     texts::GROUPS.iter().for_each(|group| score.check(group, &text));
     match singles::compare(step, false) {
-        Ok(compared) => score.count(true, &format!("singles, a part of all: {compared} compared")),
+        Ok(compared) => score.count(true, &format!("singles, one in {step}: {compared} compared")),
         Err(difference) => score.count(false, &format!("singles: {difference}")),
     }
     println!("compare: {} passed, {} failed", score.passed, score.failed);
