@@ -2,13 +2,13 @@
 use super::Cursor;
 use super::NameRead;
 use super::NumberRead;
-use bytes::Class;
-use bytes::passes_at;
-use bytes::plain_byte;
+use alphabet::Class;
+use alphabet::passes_at;
+use alphabet::plain_byte;
 ghost use mathlib.Core.Path.{_≡_};
 ghost use Prim.Native.Nat.{_-_, _<_};
 ghost use lib.ListN.{drop, take};
-ghost use Rattle.bytes.specs.Bytes.{passes, run};
+ghost use Rattle.alphabet.specs.Bytes.{passes, run};
 ghost use Rattle.cursor.specs.Digits.{Digits};
 ghost use Rattle.cursor.specs.Pieces.{moved, nextLine, decimal, numberAt, nameAt, nameTo, nameEnd, plainPart, quotePart};
 

@@ -2,34 +2,18 @@
 use mathlib.Core.Path.{_≡_, sym, ap, _∙_}
 use mathlib.Core.List.{List, _++_, append-assoc}
 use Prim.Native.Nat.{ℕ, _+_, _-_, _*_, _≤_, _<_}
-use native.Mathlib.Numerals.{add-one}
 use native.Mathlib.Omega.{arith}
-use lib.ListN.{length, getD, take, drop, set, length-append, List·getD-append, take-append-drop}
-use lib.Seq.{paste, paste-zero, paste-suc, length-paste, take-all, take-at, drop-at, drop-drop, length-take-le, getD-append-add, getD-take, getD-drop}
-use Rattle.edit.specs.Edit.{PutReady}
-use Rattle.edit.specs.Edit.{putList}
+use lib.ListN.{length, getD, take, drop, length-append, List·getD-append, take-append-drop}
+use lib.Seq.{take-length, paste, length-paste, take-at, drop-at, drop-drop, length-take-le, getD-append-add, getD-take, getD-drop}
+use Rattle.edit.specs.Edit.{PutReady, putList}
 
--- the loop that writes a row: after k fields
 module _ (l : List ℕ) (i : ℕ) (row : List ℕ) (h : PutReady l i row) where
-  pub put-none : l ≡ paste l (i * 18) row 0
-  put-none = paste-zero l (i * 18) row
-
-  pub put-more : (k : ℕ) (l′ : List ℕ) → k < 18 → l′ ≡ paste l (i * 18) row k → set l′ (i * 18 + k) (getD row k 0) ≡ paste l (i * 18) row (k + 1)
-  put-more k l′ b e =
-      rw (e, add-one k) (paste-suc l (i * 18) row k 0 (omega (arith, h .in-list)) (omega (arith, h .row-length)))
-
-  pub put-length : (k : ℕ) → k ≤ 18 → length (paste l (i * 18) row k) ≡ length l
-  put-length k b = length-paste l (i * 18) row k (omega (arith, h .in-list)) (omega (arith, h .row-length))
-
-  put-all : paste l (i * 18) row 18 ≡ putList l i row
+  pub put-pasted : paste l (i * 18) row (length row) ≡ putList l i row
   unfolding putList
-  put-all = ap (λ (r : List ℕ). take (i * 18) l ++ r ++ drop (i * 18 + 18) l) (take-all 18 row (omega (arith, h .row-length)))
-
-  pub put-end : (k : ℕ) → k ≤ 18 → 18 ≤ k → paste l (i * 18) row k ≡ putList l i row
-  put-end k a b = let e : k ≡ 18 = omega arith in rw e put-all
+  put-pasted = rw (take-length row, h .row-length)
 
   pub putList-length : length (putList l i row) ≡ length l
-  putList-length = ap length (sym put-all) ∙ put-length 18 (omega arith)
+  putList-length = ap length (sym put-pasted) ∙ length-paste l (i * 18) row (length row) (omega (arith, h .in-list, h .row-length)) (omega arith)
 
   -- the numbers before the row, of the row, and after it
   pub putList-before : (x : ℕ) → x < i * 18 → getD (putList l i row) x 0 ≡ getD l x 0

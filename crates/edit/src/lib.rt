@@ -1,6 +1,7 @@
 // The row that a replacement puts in: 10 EDIT, and the list with the row written [01 §4].
 use answers::Answer;
 use answers::Tested;
+use copy::put;
 use row::FIELDS;
 use row::field_at;
 ghost use mathlib.Core.Path.{_≡_};
@@ -11,12 +12,7 @@ pub fn put_list(list: &mut [u64], i: usize, row: &[u64])
     requires { ⌜ PutReady (now list) i (now row) ⌝ }
     ensures { λ _. ⌜ now (list .exit) ≡ putList (now (list .entry)) i (now (row .entry)) ⌝ }
 {
-    let at = i * FIELDS;
-    let mut k = 0;
-    while k < FIELDS {
-        list[at + k] = row[k];
-        k += 1;
-    }
+    put(list, i * FIELDS, row);
 }
 
 // 10 EDIT.

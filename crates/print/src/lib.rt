@@ -2,7 +2,7 @@
 mod write;
 
 use write::CARD;
-use write::put_bytes;
+use write::put_block;
 use write::put_end;
 use write::put_field;
 use write::put_line;
@@ -108,7 +108,7 @@ pub fn print_card(text: &[u8], names: &[u64], card: &[u64], n: usize, out: &mut 
     if !can_print(text.len(), names, card.len(), n, out.len()) {
         return 0;
     }
-    let next = put_bytes(out, 0, b"name,pickup,delay,cutoff\r\n");
+    let next = put_block(out, 0, b"name,pickup,delay,cutoff\r\n");
     put_rows(out, next, text, names, card, n)
 }
 
@@ -119,7 +119,7 @@ pub fn print_refusal(number: u64, place: u64, field: u64, out: &mut [u8]) -> usi
     if out.len() < REFUSAL_MOST {
         return 0;
     }
-    let named = put_bytes(out, 0, b"refused,place,field\r\n");
+    let named = put_block(out, 0, b"refused,place,field\r\n");
     let numbered = put_number(out, named, number);
     let placed = put_field(out, numbered, place);
     let done = put_field(out, placed, field);

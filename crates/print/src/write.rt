@@ -1,4 +1,5 @@
 // Writing bytes, numbers and lines into a buffer, each from a place on; the answer is the place behind.
+use copy::put_bytes;
 ghost use mathlib.Core.Path.{_≡_};
 ghost use mathlib.Core.List.{[], _∷_};
 ghost use Prim.Native.Nat.{_+_, _≤_};
@@ -9,16 +10,12 @@ ghost use Rattle.print.specs.Card.{cardCount, fieldMost, fieldsMost, fie
 // A card row has so many numbers.
 pub(crate) const CARD: usize = 3;
 
-pub(crate) fn put_bytes(out: &mut [u8], at: usize, block: &[u8]) -> usize
+pub(crate) fn put_block(out: &mut [u8], at: usize, block: &[u8]) -> usize
     requires { ⌜ at + length (now block) ≤ length (now out) ⌝ }
     ensures { λ r. ⌜ Wrote (now (out .entry)) at (now (block .entry)) (now (out .exit)) r ⌝ }
 {
-    let mut j = 0;
-    while j < block.len() {
-        out[at + j] = block[j];
-        j += 1;
-    }
-    at + j
+    put_bytes(out, at, block);
+    at + block.len()
 }
 
 // The digits of v, the first ones by the same function.
@@ -73,7 +70,7 @@ pub(crate) fn put_line(out: &mut [u8], at: usize, name: &[u8], card: &[u64], fro
     requires { ⌜ (at + length (now name) + fieldsMost + 2 ≤ length (now out)) × (from + cardCount ≤ length (now card)) ⌝ }
     ensures { λ r. ⌜ Wrote (now (out .entry)) at (lineText (now (name .entry)) (drop from (now (card .entry)))) (now (out .exit)) r ⌝ }
 {
-    let named = put_bytes(out, at, name);
+    let named = put_block(out, at, name);
     let numbered = put_fields(out, named, card, from);
     put_end(out, numbered)
 }

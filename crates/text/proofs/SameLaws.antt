@@ -1,13 +1,10 @@
--- Two lists compared byte by byte: `same` passes exactly where they are equal. Assumes nothing.
-use mathlib.Core.Path.{_≡_, refl, ap₂}
-use mathlib.Core.Bool.{true, false, false≢true}
+-- `same` passes exactly where two lists are equal. Assumes nothing.
+use mathlib.Core.Path.{_≡_, refl, sym, ap₂}
+use mathlib.Core.Bool.{Bool, true, false, false≢true}
 use mathlib.Core.List.{List, [], _∷_}
-use Prim.Native.Nat.{ℕ, _+_, _≤_, _<_}
-use native.Mathlib.Numerals.{add-one}
+use Prim.Native.Nat.{ℕ}
 use lib.Dec.{eqb}
-use lib.ListN.{length, drop, getD, drop-of-length-le}
-use lib.Seq.{drop-cons}
-use borrow.Author.Tests.{eq-eqb, ne-eqb, eqb-true}
+use borrow.Author.Tests.{eq-eqb, eqb-true}
 use Rattle.grid.proofs.BoolLaws.{and-left, and-right, fails}
 use Rattle.text.specs.Text.{same}
 
@@ -27,15 +24,7 @@ same-refl (x ∷ a) = rw (eq-eqb x x refl) (same-refl a)
 pub same-not : (a b : List ℕ) → (a ≡ b → ⊥) → same a b ≡ false
 same-not a b h = fails (same a b) (λ t. h (same-equal a b t))
 
-module _ (a b : List ℕ) (i : ℕ) where
-  pub same-more : i < length a → i < length b → getD a i 0 ≡ getD b i 0 → same (drop i a) (drop i b) ≡ same (drop (i + 1) a) (drop (i + 1) b)
-  unfolding same
-  same-more h k e = rw (drop-cons a i 0 h, drop-cons b i 0 k, eq-eqb (getD a i 0) (getD b i 0) e, add-one)
-
-  pub same-differs : i < length a → i < length b → (getD a i 0 ≡ getD b i 0 → ⊥) → same (drop i a) (drop i b) ≡ false
-  unfolding same
-  same-differs h k n = rw (drop-cons a i 0 h, drop-cons b i 0 k, ne-eqb (getD a i 0) (getD b i 0) n)
-
-  pub same-over : length a ≤ i → length b ≤ i → same (drop i a) (drop i b) ≡ true
-  unfolding same
-  same-over h k = rw (drop-of-length-le a h, drop-of-length-le b k)
+-- a test that passes exactly where two lists are equal
+pub same-by : (a b : List ℕ) (r : Bool) → (r ≡ true → a ≡ b) → (a ≡ b → r ≡ true) → r ≡ same a b
+same-by a b true to from = rw (to refl) (sym (same-refl b))
+same-by a b false to from = sym (same-not a b (λ e. false≢true (from e)))

@@ -1,5 +1,7 @@
 // Reading the text of a list [01 §6].
-use bytes::Class;
+use alphabet::Class;
+use check::same;
+use copy::put;
 use cursor::Cursor;
 use line::FIELDS;
 use line::RowRead;
@@ -8,7 +10,6 @@ ghost use mathlib.Core.Path.{_≡_};
 ghost use mathlib.Core.List.{[], _∷_};
 ghost use Prim.Native.Nat.{_+_, _*_, _<_, _≤_};
 ghost use lib.ListN.{length, drop};
-ghost use lib.Seq.{paste};
 ghost use Rattle.line.specs.Line.{fieldCount};
 ghost use Rattle.text.specs.Header.{header};
 ghost use Rattle.text.specs.Text.{same, roomFor, keptIn, lines, LinesTaken, TextTaken};
@@ -22,42 +23,13 @@ pub enum Reading {
     Rows(usize),
 }
 
-// Two slices hold the same bytes.
-fn same_bytes(a: &[u8], b: &[u8]) -> bool
-    ensures { λ r. ⌜ r ≡ same (now (a .entry)) (now (b .entry)) ⌝ }
-{
-    if a.len() != b.len() {
-        return false;
-    }
-    let mut i = 0;
-    while i < a.len() {
-        if a[i] != b[i] {
-            return false;
-        }
-        i += 1;
-    }
-    true
-}
-
 fn is_header(line: &[u8]) -> bool
     ensures { λ r. ⌜ r ≡ same (now (line .entry)) header ⌝ }
 {
-    same_bytes(
+    same(
         line,
         b"row,name,feeds_from,kind,volts,work,selfstart,return,far,clear,near,factor,low,high,step,device,floor,ceiling,backed",
     )
-}
-
-// Copies `block` into `out` from `at` on.
-fn put(out: &mut [u64], at: usize, block: &[u64])
-    requires { ⌜ at + length (now block) ≤ length (now out) ⌝ }
-    ensures { λ _. ⌜ now (out .exit) ≡ paste (now (out .entry)) at (now (block .entry)) (length (now (block .entry))) ⌝ }
-{
-    let mut j = 0;
-    while j < block.len() {
-        out[at + j] = block[j];
-        j += 1;
-    }
 }
 
 // For how many rows there is room.

@@ -5,12 +5,12 @@ use mathlib.Core.Bool.{Bool, true, false, cond, _&&_, _||_}
 use mathlib.Core.Logic.{⊎-elim}
 use mathlib.Core.List.{List, _++_}
 use Prim.Native.Nat.{ℕ, suc, _+_, _-_, _*_, _≤_, _<_}
-use native.Mathlib.Nat.{sub-zero}
+use native.Mathlib.Nat.{sub-zero, zero-add}
 use native.Mathlib.Numerals.{add-one}
 use native.Mathlib.Omega.{arith}
 use lib.Dec.{ltb, eqb}
-use lib.ListN.{length, getD, set, take, drop, replicate, length-replicate, getD-replicate, List·getD-eq-default}
-use lib.Seq.{drop-cons, take-suc, set-at, append-snoc, length-take-le}
+use lib.ListN.{length, getD, take, drop, replicate, length-replicate, getD-replicate, List·getD-eq-default}
+use lib.Seq.{paste, take-length, length-take-le}
 use borrow.Author.Tests.{lt-ltb, le-ltb, ltb-true, ltb-false, eqb-true, eqb-false}
 use Rattle.grid.specs.Fold.{maxTo}
 use Rattle.grid.proofs.BoolLaws.{passes-or-fails, not-both, same-test}
@@ -160,12 +160,6 @@ all-end l c₀ s₀ c s i v h =
     let e : rows l - i ≡ 0 = omega arith in
     sym (v .left) ∙ rw e
 
--- a copy of the first numbers of f over those of t, which is t′ so far: one number more, and the end
-module _ (t f t′ : List ℕ) (i : ℕ) (e : t′ ≡ take i f ++ drop i t) where
-  pub copy-next : i < length t → i < length f → set t′ i (getD f i 0) ≡ take (i + 1) f ++ drop (i + 1) t
-  copy-next h g =
-      rw (e, add-one i, drop-cons t i 0 h, set-at (take i f) (getD t i 0) (drop (suc i) t) (getD f i 0) i (length-take-le i f (omega arith)), take-suc f i 0 g)
-      (sym (append-snoc (take i f) (getD f i 0) (drop (suc i) t)))
-
-  pub copy-end : (n : ℕ) → i ≤ n → n ≤ i → t′ ≡ take n f ++ drop n t
-  copy-end n a b = let q : i ≡ n = omega arith in rw (← q) e
+-- the first n numbers of f copied over those of t
+pub front-pasted : (t f : List ℕ) (n : ℕ) → n ≤ length f → paste t 0 (take n f) (length (take n f)) ≡ take n f ++ drop n t
+front-pasted t f n h = rw (take-length (take n f), length-take-le n f h, zero-add)

@@ -3,6 +3,7 @@ use answers::Answer;
 use answers::Given;
 use answers::Tested;
 use answers::numbers;
+use copy::put;
 use row::FIELDS;
 use rows::test_rows;
 use rows::test_size;
@@ -35,11 +36,7 @@ fn copy_front(to: &mut [u64], from: &[u64], n: usize)
     requires { ⌜ (n ≤ length (now to)) × (n ≤ length (now from)) ⌝ }
     ensures { λ _. ⌜ now (to .exit) ≡ take n (now (from .entry)) ++ drop n (now (to .entry)) ⌝ }
 {
-    let mut i = 0;
-    while i < n {
-        to[i] = from[i];
-        i += 1;
-    }
+    put(to, 0, &from[..n]);
 }
 
 // The rows are worked out on a card of its own, so that a refusal leaves the lent one as it was.

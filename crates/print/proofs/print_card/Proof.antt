@@ -19,11 +19,11 @@ returns c =
     let a = c .before .before .before .before .before .before .args in
     card-none (now (a .text)) (now (a .names)) (now (a .card)) (a .n) (now (a .out)) (sym (c .before .can-print .ensures) ∙ not-true _ (c .if1 .taken))
 
-slice-aggregate-put-bytes : tie.Need-slice-aggregate-put-bytes
-slice-aggregate-put-bytes c = search needs
+slice-aggregate-put-block : tie.Need-slice-aggregate-put-block
+slice-aggregate-put-block c = search needs
 
-put-bytes-requires : tie.Need-put-bytes-requires
-put-bytes-requires c κs =
+put-block-requires : tie.Need-put-block-requires
+put-block-requires c κs =
     let a = c .before .before .before .before .before .before .before .before .args in
     let p = sym (c .before .before .before .can-print .ensures) ∙ not-false _ (c .before .before .if1 .left) in
     let m = printable-room (length (now (a .text))) (now (a .names)) (length (now (a .card))) (a .n) (length (now (a .out))) p in
@@ -34,8 +34,8 @@ put-rows-requires c κs =
     let a = c .before .before .before .before .before .before .before .before .before .before .before .before .args in
     let p = sym (c .before .before .before .before .before .before .before .can-print .ensures) ∙ not-false _ (c .before .before .before .before .before .before .if1 .left) in
     let m = printable-room (length (now (a .text))) (now (a .names)) (length (now (a .card))) (a .n) (length (now (a .out))) p in
-    let w = c .before .before .before .put-bytes .ensures in
-    let k = c .before .before .before .put-bytes .kept .0 in
+    let w = c .before .before .before .put-block .ensures in
+    let k = c .before .before .before .put-block .kept .0 in
     record {
       out-room = omega (arith, m .rows .out-room, w .end, k);
       names = m .rows .names;
@@ -49,9 +49,9 @@ same-length c = search needs
 returns-2 : tie.Need-returns-2
 returns-2 c =
     let a = c .before .before .before .before .before .before .before .before .before .before .before .before .before .before .before .args in
-    card-all (now (a .text)) (now (a .names)) (now (a .card)) (a .n) (now (a .out)) _ _ (c .before .before .before .before .before .before .put-bytes .result) (c .before .before .put-rows .result)
-    (sym (c .before .before .before .before .before .before .before .before .before .before .can-print .ensures) ∙ not-false _ (c .before .before .before .before .before .before .before .before .before .if1 .left)) (c .before .before .put-rows .kept .0 ∙ c .before .before .before .before .before .before .put-bytes .kept .0)
-    (c .before .before .before .before .before .before .put-bytes .ensures) (c .before .before .put-rows .ensures)
+    card-all (now (a .text)) (now (a .names)) (now (a .card)) (a .n) (now (a .out)) _ _ (c .before .before .before .before .before .before .put-block .result) (c .before .before .put-rows .result)
+    (sym (c .before .before .before .before .before .before .before .before .before .before .can-print .ensures) ∙ not-false _ (c .before .before .before .before .before .before .before .before .before .if1 .left)) (c .before .before .put-rows .kept .0 ∙ c .before .before .before .before .before .before .put-block .kept .0)
+    (c .before .before .before .before .before .before .put-block .ensures) (c .before .before .put-rows .ensures)
 
 pub print-card-spec : {M : Type 1} → statement M
 print-card-spec =
@@ -59,8 +59,8 @@ print-card-spec =
     (tie.spec
     can-print-requires
     returns
-    slice-aggregate-put-bytes
-    put-bytes-requires
+    slice-aggregate-put-block
+    put-block-requires
     put-rows-requires
     same-length
     returns-2)

@@ -11,8 +11,8 @@ use Rattle.print.proofs.WriteLaws.{wrote-then}
 use Rattle.print.proofs.write.put_line.Statement.{statement}
 use Rattle.print.proofs.write.put_line.Tie as tie
 
-put-bytes-requires : tie.Need-put-bytes-requires
-put-bytes-requires c κs = search needs
+put-block-requires : tie.Need-put-block-requires
+put-block-requires c κs = search needs
 
 put-fields-requires : tie.Need-put-fields-requires
 put-fields-requires c κs = search needs
@@ -21,7 +21,7 @@ put-end-requires : tie.Need-put-end-requires
 put-end-requires c κs =
     let a = c .before .before .before .before .before .before .before .before .before .before .before .before .args in
     let s = fields-short 3 (drop (a .from) (now (a .card))) in
-    omega (arith, s, c .before .before .before .before .before .before .before .put-bytes .ensures .end, c .before .before .before .put-fields .ensures .end, c .before .before .before .before .before .before .before .put-bytes .kept .0, c .before .before .before .put-fields .kept .0, c .before .before .before .before .before .before .before .before .before .before .before .before .pre .0)
+    omega (arith, s, c .before .before .before .before .before .before .before .put-block .ensures .end, c .before .before .before .put-fields .ensures .end, c .before .before .before .before .before .before .before .put-block .kept .0, c .before .before .before .put-fields .kept .0, c .before .before .before .before .before .before .before .before .before .before .before .before .pre .0)
 
 same-length : tie.Need-same-length
 same-length c = search needs
@@ -34,10 +34,10 @@ returns c =
     let s = fields-short 3 (drop (a .from) (now (a .card))) in
     let n = length-append (now (a .name)) f in
     wrote-then (now (a .out)) (a .at) (now (a .name) ++ f) _ (c .before .before .before .before .before .before .put-fields .result) lineEnd _ _ (omega (arith, s, n, c .before .before .before .before .before .before .before .before .before .before .before .before .before .before .before .pre .0))
-    (wrote-then (now (a .out)) (a .at) (now (a .name)) _ (c .before .before .before .before .before .before .before .before .before .before .put-bytes .result) f _ _ (omega (arith, s, c .before .before .before .before .before .before .before .before .before .before .before .before .before .before .before .pre .0)) (c .before .before .before .before .before .before .before .before .before .before .put-bytes .ensures) (c .before .before .before .before .before .before .put-fields .ensures))
+    (wrote-then (now (a .out)) (a .at) (now (a .name)) _ (c .before .before .before .before .before .before .before .before .before .before .put-block .result) f _ _ (omega (arith, s, c .before .before .before .before .before .before .before .before .before .before .before .before .before .before .before .pre .0)) (c .before .before .before .before .before .before .before .before .before .before .put-block .ensures) (c .before .before .before .before .before .before .put-fields .ensures))
     (c .before .before .put-end .ensures)
 
 pub put-line-spec : {M : Type 1} → statement M
 put-line-spec =
     tie.close
-    (tie.spec put-bytes-requires put-fields-requires put-end-requires same-length returns)
+    (tie.spec put-block-requires put-fields-requires put-end-requires same-length returns)

@@ -2,9 +2,9 @@
 -- Assumes nothing.
 use denote.Ref.{now}
 use borrow.Author.Needs.{needs}
-use Rattle.bytes.proofs.ByteLaws.{crlf-no-cr, crlf-at-end, crlf-lf}
-use Rattle.bytes.proofs.crlf_at.Statement.{statement}
-use Rattle.bytes.proofs.crlf_at.Tie as tie
+use Rattle.alphabet.proofs.ByteLaws.{crlf-no-cr, crlf-at-end, crlf-lf}
+use Rattle.alphabet.proofs.crlf_at.Statement.{statement}
+use Rattle.alphabet.proofs.crlf_at.Tie as tie
 
 shared-slice-read-if1 : tie.Need-shared-slice-read-if1
 shared-slice-read-if1 c = search needs

@@ -1,8 +1,8 @@
-// The bytes of section 6 [01 §6].
+// The bytes that numbers, names and lines are made of [01 §6].
 ghost use mathlib.Core.Path.{_≡_};
 ghost use Prim.Native.Nat.{_<_};
 ghost use lib.ListN.{length, drop};
-ghost use Rattle.bytes.specs.Bytes.{digitByte, plainByte, bareByte, crlf, passes};
+ghost use Rattle.alphabet.specs.Bytes.{digitByte, plainByte, bareByte, crlf, passes};
 
 // The bytes that a run is made of.
 pub enum Class {
