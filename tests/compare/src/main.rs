@@ -20,8 +20,8 @@ struct Length {
 }
 
 const SHORT: Length = Length { times: 1, step: 1_021 };
-const GATE: Length = Length { times: 10, step: 1 };
-const LONG: Length = Length { times: 100, step: 1 };
+const GATE: Length = Length { times: 14, step: 1 };
+const LONG: Length = Length { times: 140, step: 1 };
 
 const USAGE: &str = "compare [--seed N] [--short | --long] | compare singles [--all]";
 
