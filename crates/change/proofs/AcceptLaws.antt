@@ -7,15 +7,16 @@ use Prim.Native.Nat.{ℕ, _*_, _≤_, _<_}
 use native.Mathlib.Nat.{le-trans}
 use native.Mathlib.Omega.{arith}
 use lib.ListN.{length}
+use Rattle.layout.specs.Counts.{columnCount}
 use Rattle.grid.specs.declared.Found.{Found}
 use Rattle.grid.specs.declared.Found.the-variants.{At, Nothing}
 use Rattle.grid.proofs.GridLaws.{leastOn-least}
 use Rattle.answers.specs.declared.Answer.{Answer}
 use Rattle.answers.specs.declared.Answer.the-variants.{Done}
-use Rattle.row.specs.declared.Row.{Row}
+use Rattle.layout.specs.declared.Row.{Row}
 use Rattle.answers.specs.declared.Tested.{Tested}
 use Rattle.answers.specs.declared.Tested.the-variants.{Passed, Refused}
-use Rattle.row.specs.Row.{rows, rowAt}
+use Rattle.layout.specs.List.{rows, rowAt}
 use Rattle.rows.specs.InRange.{InRange, Bounded}
 use Rattle.rows.specs.Tests.{sizeTest, rowsTest}
 use Rattle.rows.proofs.InRangeLaws.{passed-in-range, passed-feeds, row-bounded, field-from}
@@ -96,7 +97,7 @@ module _ (l : List ℕ) (a : InRange l) (c : List ℕ) (j : ℕ) (h : j < rows l
       }
 
 module _ (l c₀ c : List ℕ) (x : Accepts l c₀ c) where
-  pub accepted-room : rows l * 3 ≤ length c₀
+  pub accepted-room : rows l * columnCount ≤ length c₀
   accepted-room = omega (arith, size-passed (length l) (length c₀) (x .size) .card-room)
 
   pub accepted-length : length c ≡ length c₀

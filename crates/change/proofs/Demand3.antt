@@ -14,11 +14,12 @@ use mathlib.Core.List.{List, [], _∷_}
 use Prim.Native.Nat.{ℕ, _+_, _-_, _*_, _≤_, _<_}
 use native.Mathlib.Omega.{arith}
 use lib.ListN.{length, getD}
+use Rattle.layout.specs.Counts.{fieldCount, columnCount}
 use Rattle.grid.proofs.BoolLaws.{fails}
 use Rattle.answers.specs.declared.Answer.{Answer}
 use Rattle.answers.specs.declared.Answer.the-variants.{Done, Edit}
 use Rattle.answers.specs.declared.Tested.the-variants.{Passed}
-use Rattle.row.specs.Row.{rows}
+use Rattle.layout.specs.List.{rows}
 use Rattle.rows.specs.Tests.{sizeTest}
 use Rattle.work.specs.Card.{pickupIn, delayIn, cutoffIn}
 use Rattle.work.specs.WorkOut.{Worked, finished, refused}
@@ -117,10 +118,10 @@ edit-exactly l c place row s = (
 -- what a replacement that is done leaves alone, with any card
 pub record LeftAlone (l c : List ℕ) (place : ℕ) (row l′ c′ : List ℕ) : Type 0 where
   pub list : l′ ≡ putList l (place - 1) row
-  pub other-rows : (x : ℕ) → (x < (place - 1) * 18) ⊎ ((place - 1) * 18 + 18 ≤ x) → getD l′ x 0 ≡ getD l x 0
+  pub other-rows : (x : ℕ) → (x < (place - 1) * fieldCount) ⊎ ((place - 1) * fieldCount + fieldCount ≤ x) → getD l′ x 0 ≡ getD l x 0
   pub card-length : length c′ ≡ length c
   pub off-path : (j : ℕ) → onPath l (place - 1) j ≡ false → (pickupIn c′ j ≡ pickupIn c j) × (delayIn c′ j ≡ delayIn c j) × (cutoffIn c′ j ≡ cutoffIn c j)
-  pub past-rows : (x : ℕ) → rows l * 3 ≤ x → getD c′ x 0 ≡ getD c x 0
+  pub past-rows : (x : ℕ) → rows l * columnCount ≤ x → getD c′ x 0 ≡ getD c x 0
 
 pub off-path-kept :
     (l c : List ℕ) (place : ℕ) (row : List ℕ) → replaced l c place row .answer ≡ Done →
@@ -137,9 +138,9 @@ off-path-kept l c place row e =
       card-length = k .same-length;
       off-path =
           λ j off. (
-            k .same (j * 3) (out j (j * 3) off (omega arith) (omega arith)),
-            k .same (j * 3 + 1) (out j (j * 3 + 1) off (omega arith) (omega arith)),
-            k .same (j * 3 + 2) (out j (j * 3 + 2) off (omega arith) (omega arith)),
+            k .same (j * columnCount) (out j (j * columnCount) off (omega arith) (omega arith)),
+            k .same (j * columnCount + 1) (out j (j * columnCount + 1) off (omega arith) (omega arith)),
+            k .same (j * columnCount + 2) (out j (j * columnCount + 2) off (omega arith) (omega arith)),
           );
       past-rows = λ x h. k .same x (past-outside l c place row (r .fits) (r .tested) x h);
     })

@@ -9,8 +9,9 @@ use native.Mathlib.Omega.{arith}
 use lib.Dec.{eqb, ltb}
 use lib.ListN.{length}
 use borrow.Author.Tests.{eqb-true, eqb-false, ltb-true, ltb-false}
+use Rattle.layout.specs.Counts.{fieldCount}
 use Rattle.grid.proofs.BoolLaws.{passes-or-fails}
-use Rattle.row.specs.Row.{rows, field, rowAt}
+use Rattle.layout.specs.List.{rows, field, rowAt}
 use Rattle.path.specs.Path.{pathFrom, pathOf, onPath, has}
 use Rattle.edit.specs.Edit.{PutReady}
 use Rattle.edit.specs.Edit.{putList}
@@ -27,7 +28,7 @@ paths-same l l′ n f i = from (rows l) i ∙ ap (λ (n : ℕ). pathFrom l′ n 
     from (suc n) i = rw f (ap (λ (t : List ℕ). i ∷ cond (eqb (field l′ i 1) 0) [] t) (from n (field l′ i 1 - 1)))
 
 -- rows with the same fields
-same-row : (l l′ : List ℕ) (j : ℕ) → ((k : ℕ) → k < 18 → field l j k ≡ field l′ j k) → rowAt l j ≡ rowAt l′ j
+same-row : (l l′ : List ℕ) (j : ℕ) → ((k : ℕ) → k < fieldCount → field l j k ≡ field l′ j k) → rowAt l j ≡ rowAt l′ j
 same-row l l′ j e =
     λ t.
     record {
@@ -58,16 +59,16 @@ module _ (l : List ℕ) (place : ℕ) (row : List ℕ) (f : EditFits l place row
   edited-length = putList-length l (place - 1) row edited-put
 
   pub edited-rows : rows l ≡ rows (putList l (place - 1) row)
-  edited-rows = ap (λ (n : ℕ). n / 18) (sym edited-length)
+  edited-rows = ap (λ (n : ℕ). n / fieldCount) (sym edited-length)
 
   pub edited-is-row : place - 1 < rows l
   edited-is-row = omega (arith, f .from, f .to)
 
-  edited-field : (j k : ℕ) → (j ≡ place - 1 → ⊥) → k < 18 → field l j k ≡ field (putList l (place - 1) row) j k
+  edited-field : (j k : ℕ) → (j ≡ place - 1 → ⊥) → k < fieldCount → field l j k ≡ field (putList l (place - 1) row) j k
   edited-field j k n h =
       ⊎-elim
-      (λ b. let g = ltb-true j (place - 1) b in sym (putList-before l (place - 1) row edited-put (j * 18 + k) (omega arith)))
-      (λ b. let g = ltb-false j (place - 1) b in sym (putList-after l (place - 1) row edited-put (j * 18 + k) (omega arith)))
+      (λ b. let g = ltb-true j (place - 1) b in sym (putList-before l (place - 1) row edited-put (j * fieldCount + k) (omega arith)))
+      (λ b. let g = ltb-false j (place - 1) b in sym (putList-after l (place - 1) row edited-put (j * fieldCount + k) (omega arith)))
       (passes-or-fails (ltb j (place - 1)))
 
   pub edited-row : (j : ℕ) → (j ≡ place - 1 → ⊥) → rowAt l j ≡ rowAt (putList l (place - 1) row) j

@@ -4,6 +4,7 @@ use mathlib.Core.List.{List, [], append-nil}
 use Prim.Native.Nat.{ℕ, _+_, _-_, _*_}
 use native.Mathlib.Omega.{arith}
 use lib.ListN.{length, take, drop, drop-of-length-le}
+use Rattle.layout.specs.Counts.{fieldCount}
 use Rattle.answers.specs.declared.Answer.{Answer}
 use Rattle.answers.specs.declared.Answer.the-variants.{Done}
 use Rattle.answers.specs.declared.Given.{Given}
@@ -59,8 +60,8 @@ module _ (l c : List ℕ) (i : ℕ) (row l′ : List ℕ) (el : l′ ≡ putList
 
   -- refused: the old row, which was kept aside in 18 numbers, goes back
   pub exchange-refused :
-      (a : Answer) (y old l″ : List ℕ) → t ≡ Refused a → PutReady l i row → length y ≡ 18 →
-      old ≡ putList y 0 (take (i * 18 + 18 - i * 18) (drop (i * 18) l)) → l″ ≡ putList l′ i old → Exchanged (exchanged l c i row) a l″ c′
+      (a : Answer) (y old l″ : List ℕ) → t ≡ Refused a → PutReady l i row → length y ≡ fieldCount →
+      old ≡ putList y 0 (take (i * fieldCount + fieldCount - i * fieldCount) (drop (i * fieldCount) l)) → l″ ≡ putList l′ i old → Exchanged (exchanged l c i row) a l″ c′
   unfolding outcome putList
   exchange-refused a y old l″ e h ky eo e″ =
       let b = reworked-refused (reworked l′ i c) c c t c′ z a e in
@@ -72,11 +73,11 @@ module _ (l c : List ℕ) (i : ℕ) (row l′ : List ℕ) (el : l′ ≡ putList
       })
     where
       -- 18 numbers written over 18
-      kept : (y : List ℕ) → length y ≡ 18 → putList y 0 (take (i * 18 + 18 - i * 18) (drop (i * 18) l)) ≡ take 18 (drop (i * 18) l)
+      kept : (y : List ℕ) → length y ≡ fieldCount → putList y 0 (take (i * fieldCount + fieldCount - i * fieldCount) (drop (i * fieldCount) l)) ≡ take fieldCount (drop (i * fieldCount) l)
       kept y k =
-          let n : i * 18 + 18 - i * 18 ≡ 18 = omega arith in
-          let d : drop 18 y ≡ [] = drop-of-length-le y {i = 18} (omega arith) in
-          rw (d, n, append-nil (take 18 (drop (i * 18) l)))
+          let n : i * fieldCount + fieldCount - i * fieldCount ≡ fieldCount = omega arith in
+          let d : drop fieldCount y ≡ [] = drop-of-length-le y {i = fieldCount} (omega arith) in
+          rw (d, n, append-nil (take fieldCount (drop (i * fieldCount) l)))
 
 -- 2 and 3, then 10
 module _ (l c : List ℕ) (place : ℕ) (row : List ℕ) where

@@ -7,12 +7,13 @@ use native.Mathlib.Omega.{arith}
 use lib.Dec.{eqb}
 use lib.ListN.{length, getD}
 use borrow.Author.Tests.{eq-eqb}
+use Rattle.layout.specs.Counts.{columnCount}
 use Rattle.grid.proofs.BoolLaws.{not-both}
 use Rattle.answers.specs.declared.Answer.{Answer}
 use Rattle.answers.specs.declared.Answer.the-variants.{Done}
 use Rattle.answers.specs.declared.Tested.the-variants.{Passed}
 use Rattle.answers.specs.Answer.{givenBy}
-use Rattle.row.specs.Row.{rows}
+use Rattle.layout.specs.List.{rows}
 use Rattle.rows.specs.Tests.{sizeTest, rowsTest}
 use Rattle.rows.proofs.InRangeLaws.{passed-feeds}
 use Rattle.settle.specs.declared.Outcome.{Outcome}
@@ -32,7 +33,7 @@ use Rattle.edit.proofs.TestLaws.{EditFits, edit-passed}
 
 -- a number of the card that belongs to no row of `is`
 unfoldable pub Outside : List ℕ → ℕ → Type 0
-Outside is x = (i : ℕ) → has is i ≡ true → i * 3 ≤ x → x < i * 3 + 3 → ⊥
+Outside is x = (i : ℕ) → has is i ≡ true → i * columnCount ≤ x → x < i * columnCount + columnCount → ⊥
 
 module _ (l : List ℕ) where
   pub record Keeps (is c c′ : List ℕ) : Type 0 where
@@ -123,13 +124,13 @@ module _ (l c : List ℕ) (place : ℕ) (row : List ℕ) where
 
   -- the numbers of a row off the path, and those past all rows, belong to no row of the path
   module _ (f : EditFits l place row) (t : rowsTest (putList l (place - 1) row) ≡ Passed) where
-    pub off-outside : (j x : ℕ) → onPath l (place - 1) j ≡ false → j * 3 ≤ x → x < j * 3 + 3 → Outside (pathOf (putList l (place - 1) row) (place - 1)) x
+    pub off-outside : (j x : ℕ) → onPath l (place - 1) j ≡ false → j * columnCount ≤ x → x < j * columnCount + columnCount → Outside (pathOf (putList l (place - 1) row) (place - 1)) x
     unfolding Outside onPath
     off-outside j x off lo hi i on a b =
         let q : i ≡ j = omega arith in
         not-both on (rw q (sym (edited-path l place row f (place - 1) j) ∙ off))
 
-    pub past-outside : (x : ℕ) → rows l * 3 ≤ x → Outside (pathOf (putList l (place - 1) row) (place - 1)) x
+    pub past-outside : (x : ℕ) → rows l * columnCount ≤ x → Outside (pathOf (putList l (place - 1) row) (place - 1)) x
     unfolding Outside onPath
     past-outside x h i on a b =
         let n = edited-rows l place row f in

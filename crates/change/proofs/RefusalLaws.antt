@@ -5,6 +5,7 @@ use mathlib.Core.List.{List, [], _∷_}
 use Prim.Native.Nat.{ℕ, _*_, _/_, _%_}
 use native.Mathlib.Omega.{arith}
 use lib.Dec.{eqb, leb}
+use Rattle.layout.specs.Counts.{fieldCount, columnCount, listMost}
 use Rattle.grid.specs.declared.Found.{Found}
 use Rattle.grid.specs.declared.Found.the-variants.{At, Nothing}
 use Rattle.grid.specs.First.{first}
@@ -54,7 +55,7 @@ passed-never e = absurd (let z : _≡_ {A = ℕ} 0 1 = cc in omega arith)
 
 pub size-refuses : (len room : ℕ) (a : Answer) → sizeTest len room ≡ Refused a → Refuses a
 unfolding sizeTest
-size-refuses len room a = by-cases (eqb (len % 18) 0 && (leb 18 len && leb len 4608)) (leb (3 * (len / 18)) room)
+size-refuses len room a = by-cases (eqb (len % fieldCount) 0 && (leb fieldCount len && leb len listMost)) (leb (columnCount * (len / fieldCount)) room)
   where
     by-cases : (x y : Bool) → cond x (cond y Passed (Refused Room)) (Refused Count) ≡ Refused a → Refuses a
     by-cases true true e = passed-never e

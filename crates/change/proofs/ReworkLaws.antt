@@ -6,10 +6,11 @@ use mathlib.Core.List.{List}
 use Prim.Native.Nat.{ℕ, _+_, _-_, _*_, _≤_, _<_}
 use lib.Dec.{eqb}
 use lib.ListN.{length, drop}
+use Rattle.layout.specs.Counts.{columnCount}
 use Rattle.grid.proofs.BoolLaws.{not-both}
 use Rattle.answers.specs.declared.Tested.{Tested}
 use Rattle.answers.specs.declared.Tested.the-variants.{Passed, Refused}
-use Rattle.row.specs.Row.{rows}
+use Rattle.layout.specs.List.{rows}
 use Rattle.rows.specs.InRange.{InRange, Feeds}
 use Rattle.rows.specs.Tests.{rowsTest}
 use Rattle.rows.proofs.InRangeLaws.{passed-in-range, passed-feeds}
@@ -74,9 +75,9 @@ module _ (l c₀ c : List ℕ) (x : Accepts l c₀ c) (place : ℕ) (row : List 
 
     same-calculation : calculation l′ c ≡ calculation l′ c₀
     same-calculation =
-        let room = same-rows (λ n. n * 3 ≤ length c₀) (accepted-room l c₀ c x) in
+        let room = same-rows (λ n. n * columnCount ≤ length c₀) (accepted-room l c₀ c x) in
         calculation-same l′ in-range feeds c c₀ (rw (accepted-length l c₀ c x) room) room
-        (same-rows (λ n. drop (n * 3) c ≡ drop (n * 3) c₀) (calculation-keeps l c₀ c (x .calculated) .past-rows))
+        (same-rows (λ n. drop (n * columnCount) c ≡ drop (n * columnCount) c₀) (calculation-keeps l c₀ c (x .calculated) .past-rows))
 
   pub reworked-whole : reworked (putList l (place - 1) row) (place - 1) c ≡ onPassed (rowsTest (putList l (place - 1) row)) (calculation (putList l (place - 1) row) c₀)
   unfolding reworked onPassed

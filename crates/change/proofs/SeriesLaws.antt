@@ -7,12 +7,13 @@ use mathlib.Core.List.{List}
 use Prim.Native.Nat.{ℕ, _-_, _*_}
 use native.Mathlib.Omega.{arith}
 use lib.ListN.{length, replicate, length-replicate}
+use Rattle.layout.specs.Counts.{columnCount}
 use Rattle.grid.proofs.BoolLaws.{passes-or-fails, not-both}
 use Rattle.answers.specs.declared.Answer.{Answer}
 use Rattle.answers.specs.declared.Answer.the-variants.{Done, Edit}
 use Rattle.answers.specs.declared.Tested.{Tested}
 use Rattle.answers.specs.declared.Tested.the-variants.{Passed, Refused}
-use Rattle.row.specs.Row.{rows}
+use Rattle.layout.specs.List.{rows}
 use Rattle.rows.specs.Tests.{sizeTest, rowsTest}
 use Rattle.rows.proofs.InRangeLaws.{passed-in-range, passed-feeds}
 use Rattle.rows.proofs.TestLaws.{size-passed, size-right}
@@ -33,7 +34,7 @@ answer-same : (l c c′ : List ℕ) → sizeTest (length l) (length c) ≡ Passe
 unfolding ending onPassed framed
 answer-same l c c′ s s′ = ap (λ (r : Result). r .answer) (whole-as l c s) ∙ by-cases (rowsTest l) refl ∙ sym (ap (λ (r : Result). r .answer) (whole-as l c′ s′))
   where
-    by-work : (w : Worked) → ending c w .answer ≡ ending c′ (framed (rows l * 3) c′ w) .answer
+    by-work : (w : Worked) → ending c w .answer ≡ ending c′ (framed (rows l * columnCount) c′ w) .answer
     by-work (finished d) = refl
     by-work (refused a) = refl
 
@@ -88,9 +89,9 @@ module _ (l c₀ c : List ℕ) (x : Accepts l c₀ c) where
     calculated-made =
         let l′ = putList l (place - 1) row in
         let k = size-passed (length l′) (length c₀) made-size in
-        let n : length (replicate {A = ℕ} (rows l′ * 3) 0) ≡ rows l′ * 3 = length-replicate (rows l′ * 3) 0 in
-        answer-same l′ (replicate (rows l′ * 3) 0) c₀
-        (sym (size-right (length l′) (length (replicate {A = ℕ} (rows l′ * 3) 0)) (k .whole-rows) (k .some-rows) (k .most-rows) (omega arith))) made-size ∙
+        let n : length (replicate {A = ℕ} (rows l′ * columnCount) 0) ≡ rows l′ * columnCount = length-replicate (rows l′ * columnCount) 0 in
+        answer-same l′ (replicate (rows l′ * columnCount) 0) c₀
+        (sym (size-right (length l′) (length (replicate {A = ℕ} (rows l′ * columnCount) 0)) (k .whole-rows) (k .some-rows) (k .most-rows) (omega arith))) made-size ∙
         ap (λ (r : Result). r .answer) whole-made
 
 -- a replacement and an entry of the ledger

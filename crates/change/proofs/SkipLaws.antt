@@ -10,8 +10,9 @@ use native.Mathlib.Omega.{arith}
 use lib.Dec.{eqb}
 use lib.ListN.{length, take, drop, take-append-drop}
 use borrow.Author.Tests.{eqb-true, eqb-false, ne-eqb}
+use Rattle.layout.specs.Counts.{columnCount}
 use Rattle.grid.proofs.BoolLaws.{passes-or-fails, not-both, fails}
-use Rattle.row.specs.Row.{rows, field}
+use Rattle.layout.specs.List.{rows, field}
 use Rattle.rows.specs.InRange.{InRange, Feeds}
 use Rattle.settle.specs.declared.Outcome.{Outcome}
 use Rattle.settle.specs.declared.Settled.{Settled}
@@ -65,7 +66,7 @@ module _ (l : List ℕ) (a : InRange l) (b : Feeds l) (i : ℕ) (h : i < rows l)
             s .settles;
         pickup = putRow-pickup-other c k o j n ∙ s .pickup;
         delay = putRow-delay-other c k o j n ∙ s .delay;
-        cutoff = putRow-other c k o (j * 3 + 2) (λ e. omega arith) (λ e. omega arith) (λ e. n (omega arith)) ∙ s .cutoff;
+        cutoff = putRow-other c k o (j * columnCount + 2) (λ e. omega arith) (λ e. omega arith) (λ e. n (omega arith)) ∙ s .cutoff;
       }
 
   -- m rows from k on are left, x is the next row of the path
@@ -113,12 +114,12 @@ module _ (l : List ℕ) (a : InRange l) (b : Feeds l) (i : ℕ) (h : i < rows l)
 
 -- on cards that hold the same past three numbers a row, the calculation is the same
 pub calculation-same :
-    (l : List ℕ) → InRange l → Feeds l → (c c′ : List ℕ) → rows l * 3 ≤ length c → rows l * 3 ≤ length c′ → drop (rows l * 3) c ≡ drop (rows l * 3) c′ →
+    (l : List ℕ) → InRange l → Feeds l → (c c′ : List ℕ) → rows l * columnCount ≤ length c → rows l * columnCount ≤ length c′ → drop (rows l * columnCount) c ≡ drop (rows l * columnCount) c′ →
     calculation l c ≡ calculation l c′
 unfolding framed
 calculation-same l a b c c′ h h′ e = calculation-frame l a b c′ c h′ h ∙ by-cases (calculation l c′) refl
   where
-    by-cases : (w : Worked) → calculation l c′ ≡ w → framed (rows l * 3) c w ≡ w
+    by-cases : (w : Worked) → calculation l c′ ≡ w → framed (rows l * columnCount) c w ≡ w
     by-cases (finished d) q =
-        ap finished (ap (λ (t : List ℕ). take (rows l * 3) d ++ t) (e ∙ sym (calculation-keeps l c′ d q .past-rows)) ∙ take-append-drop (rows l * 3) d)
+        ap finished (ap (λ (t : List ℕ). take (rows l * columnCount) d ++ t) (e ∙ sym (calculation-keeps l c′ d q .past-rows)) ∙ take-append-drop (rows l * columnCount) d)
     by-cases (refused x) q = refl

@@ -3,6 +3,7 @@ use mathlib.Core.Path.{_≡_}
 use mathlib.Core.List.{List}
 use Prim.Native.Nat.{ℕ}
 use lib.ListN.{length}
+use Rattle.layout.specs.Counts.{fieldCount}
 use Rattle.answers.specs.declared.Answer.{Answer}
 use Rattle.answers.specs.declared.Given.{Given}
 use Rattle.answers.specs.Answer.{givenBy}
@@ -12,7 +13,7 @@ use Rattle.change.specs.Replace.{reworked, outcome, Replaced}
 
 pub record ExchangeReady (l : List ℕ) (i : ℕ) (c row : List ℕ) : Type 0 where
   pub rework : ReworkReady l i c
-  pub row-length : length row ≡ 18
+  pub row-length : length row ≡ fieldCount
 
 -- a new row in the place of row i
 abbrev pub exchanged : List ℕ → List ℕ → ℕ → List ℕ → Replaced

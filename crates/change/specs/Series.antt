@@ -4,10 +4,11 @@ use mathlib.Core.List.{List, [], _∷_}
 use Prim.Native.Nat.{ℕ, _-_, _*_}
 use lib.Dec.{eqb}
 use lib.ListN.{replicate}
+use Rattle.layout.specs.Counts.{columnCount}
 use Rattle.answers.specs.declared.Answer.{Answer}
 use Rattle.answers.specs.declared.Answer.the-variants.{Edit}
 use Rattle.answers.specs.Answer.{givenBy}
-use Rattle.row.specs.Row.{rows}
+use Rattle.layout.specs.List.{rows}
 use Rattle.whole.specs.Whole.{whole}
 use Rattle.edit.specs.Edit.{putList, editRight}
 use Rattle.change.specs.Replace.{replaced}
@@ -42,7 +43,7 @@ pub record Ledger : Type 0 where
 
 -- the answer of the whole calculation of a list, with room for its card
 unfoldable pub calculated : List ℕ → Answer
-calculated l = whole l (replicate (rows l * 3) 0) .answer
+calculated l = whole l (replicate (rows l * columnCount) 0) .answer
 
 -- number 0: the ledger holds the list made; any other: it keeps its own
 unfoldable pub kept : List ℕ → List ℕ → Answer → Entry

@@ -7,7 +7,7 @@ use edit::put_list;
 use edit::test_edit;
 use path::test_card;
 use path::work_path;
-use row::FIELDS;
+use layout::FIELDS;
 use rows::test_rows;
 use rows::test_size;
 ghost use Rattle.path.specs.Ready.{ReworkReady, Reworked};

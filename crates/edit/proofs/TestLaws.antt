@@ -7,18 +7,19 @@ use native.Mathlib.Omega.{arith}
 use lib.Dec.{leb, eqb}
 use lib.ListN.{length, getD}
 use borrow.Author.Tests.{eqb-true, leb-true, le-leb, eq-eqb}
+use Rattle.layout.specs.Counts.{fieldCount}
 use Rattle.grid.specs.First.{first}
 use Rattle.grid.proofs.BoolLaws.{and-left, and-right, and-both, fails}
 use Rattle.answers.specs.declared.Answer.the-variants.{Edit}
 use Rattle.answers.specs.declared.Tested.the-variants.{Passed, Refused}
-use Rattle.row.specs.Row.{rows, field}
+use Rattle.layout.specs.List.{rows, field}
 use Rattle.edit.specs.Edit.{editRight, editTest}
 
 -- what EDIT asks of a place and a new row
 pub record EditFits (l : List ℕ) (place : ℕ) (row : List ℕ) : Type 0 where
   pub from : 1 ≤ place
   pub to : place ≤ rows l
-  pub row-length : length row ≡ 18
+  pub row-length : length row ≡ fieldCount
   pub own-number : getD row 0 0 ≡ place
   pub same-feeder : getD row 1 0 ≡ field l (place - 1) 1
 
@@ -28,7 +29,7 @@ module _ (l : List ℕ) (place : ℕ) (row : List ℕ) where
   edit-fits e =
       let a = leb 1 place in
       let b = leb place (rows l) in
-      let x = eqb (length row) 18 in
+      let x = eqb (length row) fieldCount in
       let y = eqb (getD row 0 0) place in
       let z = eqb (getD row 1 0) (field l (place - 1) 1) in
       let first = and-left (a && b) (x && (y && z)) e in

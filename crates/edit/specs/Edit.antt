@@ -5,24 +5,25 @@ use mathlib.Core.List.{List, _++_}
 use Prim.Native.Nat.{ℕ, _+_, _-_, _*_, _≤_}
 use lib.Dec.{leb, eqb}
 use lib.ListN.{length, getD, take, drop}
+use Rattle.layout.specs.Counts.{fieldCount}
 use Rattle.answers.specs.declared.Answer.the-variants.{Edit}
 use Rattle.answers.specs.declared.Tested.{Tested}
 use Rattle.answers.specs.declared.Tested.the-variants.{Passed, Refused}
-use Rattle.row.specs.Row.{rows, field}
+use Rattle.layout.specs.List.{rows, field}
 
 -- the list with a new row in the place of row i, counted from 0
 unfoldable pub putList : List ℕ → ℕ → List ℕ → List ℕ
-putList l i row = take (i * 18) l ++ row ++ drop (i * 18 + 18) l
+putList l i row = take (i * fieldCount) l ++ row ++ drop (i * fieldCount + fieldCount) l
 
 -- 10 EDIT: the place is that of a row, the new row is 18 numbers, its field 1 is the place, its field 2 is the list's there
 unfoldable pub editRight : List ℕ → ℕ → List ℕ → Bool
 editRight l place row =
-    (leb 1 place && leb place (rows l)) && (eqb (length row) 18 && (eqb (getD row 0 0) place && eqb (getD row 1 0) (field l (place - 1) 1)))
+    (leb 1 place && leb place (rows l)) && (eqb (length row) fieldCount && (eqb (getD row 0 0) place && eqb (getD row 1 0) (field l (place - 1) 1)))
 
 unfoldable pub editTest : List ℕ → ℕ → List ℕ → Tested
 editTest l place row = cond (editRight l place row) Passed (Refused Edit)
 
 -- row i of the list can be written: 18 numbers in the place of 18
 pub record PutReady (l : List ℕ) (i : ℕ) (row : List ℕ) : Type 0 where
-  pub in-list : i * 18 + 18 ≤ length l
-  pub row-length : length row ≡ 18
+  pub in-list : i * fieldCount + fieldCount ≤ length l
+  pub row-length : length row ≡ fieldCount

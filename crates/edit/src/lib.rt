@@ -2,8 +2,8 @@
 use answers::Answer;
 use answers::Tested;
 use copy::put;
-use row::FIELDS;
-use row::field_at;
+use layout::FIELDS;
+use layout::field_at;
 ghost use mathlib.Core.Path.{_≡_};
 ghost use Rattle.edit.specs.Edit.{putList, editTest, PutReady};
 

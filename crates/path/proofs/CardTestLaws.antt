@@ -13,7 +13,7 @@ use Rattle.grid.proofs.BoolLaws.{and-left, and-right, and-both, fails}
 use Rattle.grid.proofs.FirstLaws.{first-none, first-nothing}
 use Rattle.answers.specs.declared.Answer.the-variants.{Card}
 use Rattle.answers.specs.declared.Tested.the-variants.{Passed, Refused}
-use Rattle.row.specs.Row.{rows}
+use Rattle.layout.specs.List.{rows}
 use Rattle.work.specs.Card.{pickupIn, delayIn, cutoffIn}
 use Rattle.path.specs.declared.Numbers.{Numbers}
 use Rattle.path.specs.Ready.{numbersAt}

@@ -12,7 +12,7 @@ use Rattle.grid.proofs.BoolLaws.{passes-or-fails}
 use Rattle.answers.specs.declared.Answer.{Answer}
 use Rattle.answers.specs.declared.Tested.{Tested}
 use Rattle.answers.specs.declared.Tested.the-variants.{Passed, Refused}
-use Rattle.row.specs.Row.{rows, field, rowAt}
+use Rattle.layout.specs.List.{rows, field, rowAt}
 use Rattle.settle.specs.declared.Outcome.{Outcome}
 use Rattle.settle.specs.declared.Settled.{Settled}
 use Rattle.settle.specs.declared.Settled.the-variants.{Set, NoPickup, NoDelay}

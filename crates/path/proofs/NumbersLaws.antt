@@ -6,6 +6,7 @@ use Prim.Native.Nat.{ℕ, _+_, _*_}
 use native.Mathlib.Omega.{arith}
 use lib.ListN.{getD, set}
 use lib.Seq.{set-getD, set-set, set-comm}
+use Rattle.layout.specs.Counts.{columnCount}
 use Rattle.settle.specs.declared.Outcome.{Outcome}
 use Rattle.settle.specs.Settle.{printed}
 use Rattle.work.specs.Card.{pickupIn, delayIn, cutoffIn, putRow}
@@ -32,9 +33,9 @@ stands c a b e = rw (set-getD c a 0, set-getD c b 0, set-getD c e 0)
 pub numbers-back : (c : List ℕ) (i : ℕ) (o : Outcome) → putNumbers (putRow c i o) i (numbersAt c i) ≡ c
 unfolding putNumbers putRow
 numbers-back c i o =
-    set-again c (i * 3) (i * 3 + 1) (i * 3 + 2) _ _ _ _ _ _ (λ q. omega arith) (λ q. omega arith) (λ q. omega arith) ∙ stands c (i * 3) (i * 3 + 1) (i * 3 + 2)
+    set-again c (i * columnCount) (i * columnCount + 1) (i * columnCount + 2) _ _ _ _ _ _ (λ q. omega arith) (λ q. omega arith) (λ q. omega arith) ∙ stands c (i * columnCount) (i * columnCount + 1) (i * columnCount + 2)
 
 -- an outcome whose numbers stand there already changes nothing
 pub row-stands : (c : List ℕ) (i : ℕ) (o : Outcome) → pickupIn c i ≡ o .pickup → delayIn c i ≡ o .delay → cutoffIn c i ≡ printed (o .cutoff) → putRow c i o ≡ c
 unfolding putRow
-row-stands c i o p d x = rw (← p, ← d, ← x) (stands c (i * 3) (i * 3 + 1) (i * 3 + 2))
+row-stands c i o p d x = rw (← p, ← d, ← x) (stands c (i * columnCount) (i * columnCount + 1) (i * columnCount + 2))

@@ -9,7 +9,7 @@ use native.Mathlib.Omega.{arith}
 use lib.Dec.{eqb, ltb}
 use borrow.Author.Tests.{eqb-true, eqb-false, eq-eqb, ne-eqb, lt-ltb, le-ltb, ltb-true}
 use Rattle.grid.proofs.BoolLaws.{passes-or-fails, fails}
-use Rattle.row.specs.Row.{rows, field}
+use Rattle.layout.specs.List.{rows, field}
 use Rattle.rows.specs.InRange.{Feeds}
 use Rattle.rows.proofs.InRangeLaws.{feeder-above, feeder-of-last}
 use Rattle.path.specs.Path.{pathFrom, pathOf, aboveOf, has, onPath}

@@ -9,7 +9,7 @@ use Rattle.grid.specs.First.{first}
 use Rattle.answers.specs.declared.Answer.the-variants.{Card}
 use Rattle.answers.specs.declared.Tested.{Tested}
 use Rattle.answers.specs.declared.Tested.the-variants.{Passed, Refused}
-use Rattle.row.specs.Row.{rows}
+use Rattle.layout.specs.List.{rows}
 use Rattle.work.specs.Card.{pickupIn, delayIn, cutoffIn}
 
 unfoldable pub cardRight : List ℕ → ℕ → Bool

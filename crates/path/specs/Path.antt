@@ -3,7 +3,7 @@ use mathlib.Core.Bool.{Bool, false, cond, _||_}
 use mathlib.Core.List.{List, [], _∷_}
 use Prim.Native.Nat.{ℕ, zero, suc, _-_}
 use lib.Dec.{eqb}
-use Rattle.row.specs.Row.{rows, field}
+use Rattle.layout.specs.List.{rows, field}
 
 -- the path from row i, of at most n rows
 unfoldable pub pathFrom : List ℕ → ℕ → ℕ → List ℕ

@@ -4,9 +4,10 @@ use mathlib.Core.Bool.{not}
 use mathlib.Core.List.{List}
 use Prim.Native.Nat.{ℕ, _+_, _*_, _<_, _≤_}
 use lib.ListN.{length, getD, set}
+use Rattle.layout.specs.Counts.{fieldCount, columnCount, rowsMost}
 use Rattle.answers.specs.declared.Tested.{Tested}
 use Rattle.answers.specs.declared.Tested.the-variants.{Passed, Refused}
-use Rattle.row.specs.Row.{rows, rowAt}
+use Rattle.layout.specs.List.{rows, rowAt}
 use Rattle.rows.specs.Tests.{rowsTest}
 use Rattle.work.specs.Card.{pickupIn, delayIn, cutoffIn}
 use Rattle.work.specs.Ready.{PushReady}
@@ -21,7 +22,7 @@ abbrev pub numbersAt : List ℕ → ℕ → Numbers
 numbersAt c i = record { pickup = pickupIn c i; delay = delayIn c i; cutoff = cutoffIn c i }
 
 unfoldable pub putNumbers : List ℕ → ℕ → Numbers → List ℕ
-putNumbers c i k = set (set (set c (i * 3) (k .pickup)) (i * 3 + 1) (k .delay)) (i * 3 + 2) (k .cutoff)
+putNumbers c i k = set (set (set c (i * columnCount) (k .pickup)) (i * columnCount + 1) (k .delay)) (i * columnCount + 2) (k .cutoff)
 
 -- every row off the path of row i is done, and none on it
 pub record ClimbReady (l : List ℕ) (i : ℕ) (c s : List ℕ) : Type 0 where
@@ -30,15 +31,15 @@ pub record ClimbReady (l : List ℕ) (i : ℕ) (c s : List ℕ) : Type 0 where
 
 -- what row j asks with the numbers found on the card can be added
 pub record FoundReady (l : List ℕ) (j : ℕ) (c s : List ℕ) : Type 0 where
-  pub in-list : j * 18 + 18 ≤ length l
-  pub in-card : j * 3 + 3 ≤ length c
+  pub in-list : j * fieldCount + fieldCount ≤ length l
+  pub in-card : j * columnCount + columnCount ≤ length c
   pub push : PushReady (rowAt l j) (pickupIn c j) (delayIn c j) s
 
 -- row i of a list of the right size, with room on the card
 pub record ReworkReady (l : List ℕ) (i : ℕ) (c : List ℕ) : Type 0 where
   pub is-row : i < rows l
-  pub rows-to : rows l ≤ 256
-  pub card-room : rows l * 3 ≤ length c
+  pub rows-to : rows l ≤ rowsMost
+  pub card-room : rows l * columnCount ≤ length c
 
 -- the same, list and card tested
 pub record PathReady (l : List ℕ) (i : ℕ) (c : List ℕ) : Type 0 where

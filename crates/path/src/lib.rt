@@ -2,17 +2,18 @@
 use answers::Answer;
 use answers::Tested;
 use grid::Found;
-use row::FIELDS;
-use row::field_at;
-use row::row_at;
+use layout::FIELDS;
+use layout::field_at;
+use layout::row_at;
 use work::push;
 use work::work_row;
 ghost use mathlib.Core.Path.{_≡_};
 ghost use mathlib.Core.Bool.{not};
 ghost use Prim.Native.Nat.{_+_, _*_, _<_, _≤_};
 ghost use lib.ListN.{length};
+ghost use Rattle.layout.specs.Counts.{columnCount};
 ghost use Rattle.grid.specs.First.{first};
-ghost use Rattle.row.specs.Row.{rows, rowAt};
+ghost use Rattle.layout.specs.List.{rows, rowAt};
 ghost use Rattle.work.specs.Card.{pickupIn, delayIn};
 ghost use Rattle.work.specs.Sums.{pushed};
 ghost use Rattle.work.specs.WorkOut.{workOut};
@@ -29,7 +30,7 @@ struct Numbers {
 }
 
 fn numbers_at(card: &[u64], i: usize) -> Numbers
-    requires { ⌜ i * 3 + 3 ≤ length (now card) ⌝ }
+    requires { ⌜ i * columnCount + columnCount ≤ length (now card) ⌝ }
     ensures { λ k. ⌜ k ≡ numbersAt (now (card .entry)) i ⌝ }
 {
     let at = i * 3;
@@ -41,7 +42,7 @@ fn numbers_at(card: &[u64], i: usize) -> Numbers
 }
 
 fn put_numbers(card: &mut [u64], i: usize, k: Numbers)
-    requires { ⌜ i * 3 + 3 ≤ length (now card) ⌝ }
+    requires { ⌜ i * columnCount + columnCount ≤ length (now card) ⌝ }
     ensures { λ _. ⌜ now (card .exit) ≡ putNumbers (now (card .entry)) i k ⌝ }
 {
     let at = i * 3;
@@ -51,7 +52,7 @@ fn put_numbers(card: &mut [u64], i: usize, k: Numbers)
 }
 
 fn card_right(card: &[u64], j: usize) -> bool
-    requires { ⌜ j * 3 + 3 ≤ length (now card) ⌝ }
+    requires { ⌜ j * columnCount + columnCount ≤ length (now card) ⌝ }
     ensures { λ r. ⌜ r ≡ cardRight (now (card .entry)) j ⌝ }
 {
     let k = numbers_at(card, j);
@@ -69,7 +70,7 @@ fn card_right(card: &[u64], j: usize) -> bool
 
 // The first of n card rows out of range.
 fn first_card_wrong(card: &[u64], n: usize) -> Found
-    requires { ⌜ n * 3 ≤ length (now card) ⌝ }
+    requires { ⌜ n * columnCount ≤ length (now card) ⌝ }
     ensures { λ r. ⌜ r ≡ first (λ j. not (cardRight (now (card .entry)) j)) 0 n ⌝ }
 {
     let mut j = 0;
@@ -84,7 +85,7 @@ fn first_card_wrong(card: &[u64], n: usize) -> Found
 
 // 9 CARD over all rows ascending.
 pub fn test_card(list: &[u64], card: &[u64]) -> Tested
-    requires { ⌜ rows (now list) * 3 ≤ length (now card) ⌝ }
+    requires { ⌜ rows (now list) * columnCount ≤ length (now card) ⌝ }
     ensures { λ t. ⌜ t ≡ cardTest (now (list .entry)) (now (card .entry)) ⌝ }
 {
     match first_card_wrong(card, list.len() / FIELDS) {

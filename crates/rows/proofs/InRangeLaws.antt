@@ -1,20 +1,20 @@
 -- The tests 4 and 5 pass exactly the lists in range whose rows feed as section 2 says; what such a list's rows are.
--- Assumes nothing.
 use mathlib.Core.Path.{_≡_, refl}
 use mathlib.Core.Bool.{Bool, true, false, not, _&&_}
 use mathlib.Core.List.{List}
 use Prim.Native.Nat.{ℕ, _+_, _-_, _*_, _≤_, _<_}
 use native.Mathlib.Omega.{arith}
 use lib.Dec.{leb, ltb, eqb}
-use lib.ListN.{getD}
 use borrow.Author.Tests.{eqb-true, ltb-true, leb-true, not-false, ne-eqb, eq-eqb, le-leb}
+use Rattle.layout.specs.Counts.{fieldCount}
 use Rattle.grid.specs.declared.Found.{Found}
 use Rattle.grid.specs.declared.Found.the-variants.{At, Nothing}
 use Rattle.grid.proofs.BoolLaws.{and-left, and-right}
 use Rattle.grid.proofs.FirstLaws.{first-none, first-nothing}
 use Rattle.answers.specs.declared.Tested.{Tested}
 use Rattle.answers.specs.declared.Tested.the-variants.{Passed}
-use Rattle.row.specs.Row.{rows, field, rowAt}
+use Rattle.layout.specs.Fields.{atFeeder, atKind, atLow, atHigh, bounds, leastIn, greatestIn}
+use Rattle.layout.specs.List.{rows, field, rowAt}
 use Rattle.rows.specs.Tests.{fieldRight, rowFault, faultAfter, rowAtFault, feedsRight, fedWrongly, fieldAnswer, treeAnswer, treeTest, rowsTest}
 use Rattle.rows.specs.InRange.{InRange, Feeds, Bounded}
 use Rattle.rows.proofs.FieldLaws.{right-from, right-to}
@@ -32,19 +32,19 @@ module _ (l : List ℕ) (i : ℕ) where
   no-fault-ordered Nothing true e = refl
   no-fault-ordered Nothing false e = absurd (omega arith)
 
-  pub no-fault-fields : rowFault l i ≡ 0 → (k : ℕ) → k < 18 → fieldRight l i k ≡ true
+  pub no-fault-fields : rowFault l i ≡ 0 → (k : ℕ) → k < fieldCount → fieldRight l i k ≡ true
   unfolding rowFault
   no-fault-fields e k h =
-      not-false _ (first-nothing (λ k. not (fieldRight l i k)) 18 0 (no-fault-none _ _ e) k (omega arith) (omega arith))
+      not-false _ (first-nothing (λ k. not (fieldRight l i k)) fieldCount 0 (no-fault-none _ _ e) k (omega arith) (omega arith))
 
-  pub no-fault-order : rowFault l i ≡ 0 → field l i 11 ≤ field l i 12
+  pub no-fault-order : rowFault l i ≡ 0 → field l i atLow ≤ field l i atHigh
   unfolding rowFault
   no-fault-order e = leb-true _ _ (no-fault-ordered _ _ e)
 
-  pub fault-free : ((k : ℕ) → k < 18 → fieldRight l i k ≡ true) → field l i 11 ≤ field l i 12 → rowFault l i ≡ 0
+  pub fault-free : ((k : ℕ) → k < fieldCount → fieldRight l i k ≡ true) → field l i atLow ≤ field l i atHigh → rowFault l i ≡ 0
   unfolding rowFault faultAfter
   fault-free h o =
-      rw (first-none (λ k. not (fieldRight l i k)) 18 0 (λ k a b. rw (h k (omega arith))), le-leb _ _ o)
+      rw (first-none (λ k. not (fieldRight l i k)) fieldCount 0 (λ k a b. rw (h k (omega arith))), le-leb _ _ o)
 
 module _ (l : List ℕ) where
   tree-passed : (f : Found) → treeAnswer f ≡ Passed → f ≡ Nothing
@@ -91,10 +91,10 @@ module _ (l : List ℕ) where
 
 -- the bounds of a row of a list in range
 module _ (l : List ℕ) (a : InRange l) (i : ℕ) (h : i < rows l) where
-  pub field-from : (k : ℕ) → k < 18 → getD Rattle.rows.specs.Tests.bounds (2 * k) 0 ≤ field l i k
+  pub field-from : (k : ℕ) → k < fieldCount → leastIn bounds k ≤ field l i k
   field-from k b = right-from l i k (a .fields-right i k h b)
 
-  pub field-to : (k : ℕ) → k < 18 → field l i k ≤ getD Rattle.rows.specs.Tests.bounds (2 * k + 1) 0
+  pub field-to : (k : ℕ) → k < fieldCount → field l i k ≤ greatestIn bounds k
   field-to k b = right-to l i k (a .fields-right i k h b)
 
   pub row-bounded : Bounded (rowAt l i)
@@ -117,14 +117,14 @@ module _ (l : List ℕ) (a : InRange l) (i : ℕ) (h : i < rows l) where
 
 -- the feeding row of a row: above it, and a row of the list; of the last row none
 module _ (l : List ℕ) (b : Feeds l) (i : ℕ) (h : i < rows l) where
-  pub feeder-above : (i + 1 ≡ rows l → ⊥) → (i + 1 < field l i 1) × (field l i 1 ≤ rows l)
+  pub feeder-above : (i + 1 ≡ rows l → ⊥) → (i + 1 < field l i atFeeder) × (field l i atFeeder ≤ rows l)
   unfolding feedsRight
   feeder-above n =
-      let f = field l i 1 in
-      let line = not (eqb (field l (f - 1) 2) 3) in
+      let f = field l i atFeeder in
+      let line = not (eqb (field l (f - 1) atKind) 3) in
       let e : (ltb (i + 1) f && (leb f (rows l) && line)) ≡ true = rw (ne-eqb (i + 1) (rows l) n) at (b .feeds-right i h) in
       (ltb-true _ _ (and-left _ _ e), leb-true f (rows l) (and-left (leb f (rows l)) line (and-right (ltb (i + 1) f) (leb f (rows l) && line) e)))
 
-  pub feeder-of-last : i + 1 ≡ rows l → field l i 1 ≡ 0
+  pub feeder-of-last : i + 1 ≡ rows l → field l i atFeeder ≡ 0
   unfolding feedsRight
   feeder-of-last n = eqb-true _ _ (rw (eq-eqb (i + 1) (rows l) n) at (b .feeds-right i h))

@@ -1,10 +1,11 @@
--- Laws of the tests 2 to 5, one for each way that a test ends. Assumes nothing.
+-- Laws of the tests 2 to 5, one for each way that a test ends.
 use mathlib.Core.Path.{_≡_, refl, sym, _∙_}
 use mathlib.Core.Bool.{Bool, true, false, not, cond, _&&_}
 use mathlib.Core.List.{List}
 use Prim.Native.Nat.{ℕ, _+_, _-_, _*_, _/_, _%_, _≤_, _<_}
 use lib.Dec.{leb, eqb}
 use native.Mathlib.Omega.{arith}
+use Rattle.layout.specs.Counts.{fieldCount, columnCount, listMost}
 use Rattle.grid.proofs.BoolLaws.{and-left, and-right}
 use borrow.Author.Tests.{eqb-true, leb-true, le-leb, lt-leb, lt-ltb, le-ltb, eq-eqb, ne-eqb}
 use Rattle.grid.specs.declared.Found.{Found}
@@ -14,7 +15,8 @@ use Rattle.answers.specs.declared.Answer.{Answer}
 use Rattle.answers.specs.declared.Answer.the-variants.{Count, Room, Field, Tree}
 use Rattle.answers.specs.declared.Tested.{Tested}
 use Rattle.answers.specs.declared.Tested.the-variants.{Passed, Refused}
-use Rattle.row.specs.Row.{rows, field}
+use Rattle.layout.specs.Fields.{atFeeder, atKind, atLow, atHigh}
+use Rattle.layout.specs.List.{rows, field}
 use Rattle.rows.specs.Tests.{fieldRight, faultAfter, rowFault, rowAtFault, feedsRight, fedWrongly, sizeTest, fieldAnswer, fieldsTest, rowsTest, treeAnswer, treeTest}
 
 -- the tests that the loops search with
@@ -22,15 +24,15 @@ abbrev pub fieldWrong : List ℕ → ℕ → ℕ → Bool
 fieldWrong l i k = not (fieldRight l i k)
 
 module _ (l : List ℕ) (i : ℕ) where
-  pub fault-found : (k : ℕ) → first (fieldWrong l i) 0 18 ≡ At k → k + 1 ≡ rowFault l i
+  pub fault-found : (k : ℕ) → first (fieldWrong l i) 0 fieldCount ≡ At k → k + 1 ≡ rowFault l i
   unfolding rowFault faultAfter
   fault-found k e = rw e
 
-  pub fault-none : first (fieldWrong l i) 0 18 ≡ Nothing → field l i 11 ≤ field l i 12 → 0 ≡ rowFault l i
+  pub fault-none : first (fieldWrong l i) 0 fieldCount ≡ Nothing → field l i atLow ≤ field l i atHigh → 0 ≡ rowFault l i
   unfolding rowFault faultAfter
   fault-none e h = rw (e, le-leb _ _ h)
 
-  pub fault-order : first (fieldWrong l i) 0 18 ≡ Nothing → field l i 12 < field l i 11 → 12 ≡ rowFault l i
+  pub fault-order : first (fieldWrong l i) 0 fieldCount ≡ Nothing → field l i atHigh < field l i atLow → atLow + 1 ≡ rowFault l i
   unfolding rowFault faultAfter
   fault-order e h = rw (e, lt-leb _ _ h)
 
@@ -74,7 +76,7 @@ module _ (l : List ℕ) where
   unfolding treeTest treeAnswer
   tree-none e = rw e
 
-module _ (l : List ℕ) (i f : ℕ) (e : f ≡ field l i 1) where
+module _ (l : List ℕ) (i f : ℕ) (e : f ≡ field l i atFeeder) where
   pub feeds-last : i + 1 ≡ rows l → eqb f 0 ≡ feedsRight l i
   unfolding feedsRight
   feeds-last h = rw (eq-eqb (i + 1) (rows l) h, e)
@@ -87,50 +89,50 @@ module _ (l : List ℕ) (i f : ℕ) (e : f ≡ field l i 1) where
   unfolding feedsRight
   feeds-above n g h = rw (ne-eqb (i + 1) (rows l) n, ← e, lt-ltb (i + 1) f g, lt-leb f (rows l) h)
 
-  pub feeds-by : (k : ℕ) → k ≡ field l (f - 1) 2 → (i + 1 ≡ rows l → ⊥) → i + 1 < f → f ≤ rows l → not (eqb k 3) ≡ feedsRight l i
+  pub feeds-by : (k : ℕ) → k ≡ field l (f - 1) atKind → (i + 1 ≡ rows l → ⊥) → i + 1 < f → f ≤ rows l → not (eqb k 3) ≡ feedsRight l i
   unfolding feedsRight
   feeds-by k q n g h = rw (ne-eqb (i + 1) (rows l) n, ← e, lt-ltb (i + 1) f g, le-leb f (rows l) h, q)
 
 module _ (len room : ℕ) where
-  pub size-ragged : (len % 18 ≡ 0 → ⊥) → Refused Count ≡ sizeTest len room
+  pub size-ragged : (len % fieldCount ≡ 0 → ⊥) → Refused Count ≡ sizeTest len room
   unfolding sizeTest
-  size-ragged h = rw (ne-eqb (len % 18) 0 h)
+  size-ragged h = rw (ne-eqb (len % fieldCount) 0 h)
 
-  pub size-none : len % 18 ≡ 0 → len < 18 → Refused Count ≡ sizeTest len room
+  pub size-none : len % fieldCount ≡ 0 → len < fieldCount → Refused Count ≡ sizeTest len room
   unfolding sizeTest
-  size-none e h = rw (eq-eqb (len % 18) 0 e, lt-leb 18 len h)
+  size-none e h = rw (eq-eqb (len % fieldCount) 0 e, lt-leb fieldCount len h)
 
-  pub size-over : len % 18 ≡ 0 → 18 ≤ len → 4608 < len → Refused Count ≡ sizeTest len room
+  pub size-over : len % fieldCount ≡ 0 → fieldCount ≤ len → listMost < len → Refused Count ≡ sizeTest len room
   unfolding sizeTest
-  size-over e g h = rw (eq-eqb (len % 18) 0 e, le-leb 18 len g, lt-leb len 4608 h)
+  size-over e g h = rw (eq-eqb (len % fieldCount) 0 e, le-leb fieldCount len g, lt-leb len listMost h)
 
-  pub size-short : len % 18 ≡ 0 → 18 ≤ len → len ≤ 4608 → room < 3 * (len / 18) → Refused Room ≡ sizeTest len room
+  pub size-short : len % fieldCount ≡ 0 → fieldCount ≤ len → len ≤ listMost → room < columnCount * (len / fieldCount) → Refused Room ≡ sizeTest len room
   unfolding sizeTest
-  size-short e g h k = rw (eq-eqb (len % 18) 0 e, le-leb 18 len g, le-leb len 4608 h, lt-leb (3 * (len / 18)) room k)
+  size-short e g h k = rw (eq-eqb (len % fieldCount) 0 e, le-leb fieldCount len g, le-leb len listMost h, lt-leb (columnCount * (len / fieldCount)) room k)
 
-  pub size-right : len % 18 ≡ 0 → 18 ≤ len → len ≤ 4608 → 3 * (len / 18) ≤ room → Passed ≡ sizeTest len room
+  pub size-right : len % fieldCount ≡ 0 → fieldCount ≤ len → len ≤ listMost → columnCount * (len / fieldCount) ≤ room → Passed ≡ sizeTest len room
   unfolding sizeTest
-  size-right e g h k = rw (eq-eqb (len % 18) 0 e, le-leb 18 len g, le-leb len 4608 h, le-leb (3 * (len / 18)) room k)
+  size-right e g h k = rw (eq-eqb (len % fieldCount) 0 e, le-leb fieldCount len g, le-leb len listMost h, le-leb (columnCount * (len / fieldCount)) room k)
 
 -- what sizes that pass are
 pub record SizeRight (len room : ℕ) : Type 0 where
-  pub whole-rows : len % 18 ≡ 0
-  pub some-rows : 18 ≤ len
-  pub most-rows : len ≤ 4608
-  pub card-room : 3 * (len / 18) ≤ room
+  pub whole-rows : len % fieldCount ≡ 0
+  pub some-rows : fieldCount ≤ len
+  pub most-rows : len ≤ listMost
+  pub card-room : columnCount * (len / fieldCount) ≤ room
 
 pub size-passed : (len room : ℕ) → sizeTest len room ≡ Passed → SizeRight len room
 unfolding sizeTest
-size-passed len room e = by-cases (eqb (len % 18) 0 && (leb 18 len && leb len 4608)) (leb (3 * (len / 18)) room) refl refl e
+size-passed len room e = by-cases (eqb (len % fieldCount) 0 && (leb fieldCount len && leb len listMost)) (leb (columnCount * (len / fieldCount)) room) refl refl e
   where
-    by-cases : (a b : Bool) → (eqb (len % 18) 0 && (leb 18 len && leb len 4608)) ≡ a → leb (3 * (len / 18)) room ≡ b → cond a (cond b Passed (Refused Room)) (Refused Count) ≡ Passed → SizeRight len room
+    by-cases : (a b : Bool) → (eqb (len % fieldCount) 0 && (leb fieldCount len && leb len listMost)) ≡ a → leb (columnCount * (len / fieldCount)) room ≡ b → cond a (cond b Passed (Refused Room)) (Refused Count) ≡ Passed → SizeRight len room
     by-cases true true p q e =
-        let r = and-right (eqb (len % 18) 0) (leb 18 len && leb len 4608) p in
+        let r = and-right (eqb (len % fieldCount) 0) (leb fieldCount len && leb len listMost) p in
         record {
-          whole-rows = eqb-true (len % 18) 0 (and-left (eqb (len % 18) 0) (leb 18 len && leb len 4608) p);
-          some-rows = leb-true 18 len (and-left (leb 18 len) (leb len 4608) r);
-          most-rows = leb-true len 4608 (and-right (leb 18 len) (leb len 4608) r);
-          card-room = leb-true (3 * (len / 18)) room q;
+          whole-rows = eqb-true (len % fieldCount) 0 (and-left (eqb (len % fieldCount) 0) (leb fieldCount len && leb len listMost) p);
+          some-rows = leb-true fieldCount len (and-left (leb fieldCount len) (leb len listMost) r);
+          most-rows = leb-true len listMost (and-right (leb fieldCount len) (leb len listMost) r);
+          card-room = leb-true (columnCount * (len / fieldCount)) room q;
         }
     by-cases true false p q e = absurd (let z : _≡_ {A = ℕ} 0 1 = cc in omega arith)
     by-cases false b p q e = absurd (let z : _≡_ {A = ℕ} 0 1 = cc in omega arith)

@@ -3,14 +3,16 @@ use mathlib.Core.Path.{_≡_}
 use mathlib.Core.Bool.{true}
 use mathlib.Core.List.{List}
 use Prim.Native.Nat.{ℕ, _≤_, _<_}
-use Rattle.row.specs.declared.Row.{Row}
-use Rattle.row.specs.Row.{rows, field}
+use Rattle.layout.specs.Counts.{fieldCount}
+use Rattle.layout.specs.declared.Row.{Row}
+use Rattle.layout.specs.Fields.{atLow, atHigh}
+use Rattle.layout.specs.List.{rows, field}
 use Rattle.rows.specs.Tests.{fieldRight, feedsRight}
 
 -- every field of every row is within its bounds, and low is at most high
 pub record InRange (l : List ℕ) : Type 0 where
-  pub fields-right : (i k : ℕ) → i < rows l → k < 18 → fieldRight l i k ≡ true
-  pub low-at-most-high : (i : ℕ) → i < rows l → field l i 11 ≤ field l i 12
+  pub fields-right : (i k : ℕ) → i < rows l → k < fieldCount → fieldRight l i k ≡ true
+  pub low-at-most-high : (i : ℕ) → i < rows l → field l i atLow ≤ field l i atHigh
 
 -- every row is fed as section 2 says
 pub record Feeds (l : List ℕ) : Type 0 where

@@ -3,67 +3,32 @@
 use answers::Answer;
 use answers::Tested;
 use grid::Found;
-use row::FIELDS;
-use row::field_at;
+use layout::AT_FEEDER;
+use layout::AT_HIGH;
+use layout::AT_KIND;
+use layout::AT_LOW;
+use layout::BOUNDS;
+use layout::COLUMNS;
+use layout::FIELDS;
+use layout::LIST;
+use layout::field_at;
+use layout::in_bounds;
 ghost use mathlib.Core.Path.{_≡_};
 ghost use Prim.Native.Nat.{_+_, _*_, _<_, _≤_};
 ghost use lib.ListN.{length};
+ghost use Rattle.layout.specs.Counts.{fieldCount};
+ghost use Rattle.layout.specs.Fields.{bounds};
 ghost use Rattle.grid.specs.First.{first};
-ghost use Rattle.row.specs.Row.{field, rows};
-ghost use Rattle.rows.specs.Tests.{bounds, fieldRight, rowFault, feedsRight, fedWrongly, sizeTest, treeTest, fieldsTest, rowsTest};
-
-// The least and the greatest number allowed, field by field [01 §2].
-const BOUNDS: [u64; 36] = [
-    1,
-    256,
-    0,
-    256,
-    1,
-    3,
-    100,
-    500000,
-    1,
-    100000000,
-    1000,
-    10000,
-    800,
-    1000,
-    1,
-    100000000,
-    1,
-    100000000,
-    1,
-    100000000,
-    1000,
-    2000,
-    1,
-    100000000,
-    1,
-    100000000,
-    1,
-    100000000,
-    1,
-    3,
-    0,
-    100000,
-    0,
-    100000,
-    0,
-    1,
-];
+ghost use Rattle.layout.specs.List.{field, rows};
+ghost use Rattle.rows.specs.Tests.{fieldRight, rowFault, feedsRight, fedWrongly, sizeTest, treeTest, fieldsTest, rowsTest};
 
 // The table goes by reference: indexed as the constant, it would be made anew for each field.
-fn field_right(list: &[u64], table: &[u64; 36], i: usize, k: usize) -> bool
-    requires { ⌜ (i * 18 + k < length (now list)) × (k < 18) × (now table ≡ bounds) ⌝ }
+fn field_right(list: &[u64], table: &[u64], i: usize, k: usize) -> bool
+    requires { ⌜ (i * fieldCount + k < length (now list)) × (k < fieldCount) × (now table ≡ bounds) ⌝ }
     ensures { λ r. ⌜ r ≡ fieldRight (now (list .entry)) i k ⌝ }
 {
     let x = field_at(list, i, k);
-    let least = table[2 * k];
-    let greatest = table[2 * k + 1];
-    if x < least {
-        return false;
-    }
-    if greatest < x {
+    if !in_bounds(table, k, x) {
         return false;
     }
     if k == 0 {
@@ -73,8 +38,8 @@ fn field_right(list: &[u64], table: &[u64; 36], i: usize, k: usize) -> bool
 }
 
 // The first field at fault of a row, from 1; 0 where there is none.
-fn row_fault(list: &[u64], table: &[u64; 36], i: usize) -> u64
-    requires { ⌜ (i * 18 + 18 ≤ length (now list)) × (now table ≡ bounds) ⌝ }
+fn row_fault(list: &[u64], table: &[u64], i: usize) -> u64
+    requires { ⌜ (i * fieldCount + fieldCount ≤ length (now list)) × (now table ≡ bounds) ⌝ }
     ensures { λ r. ⌜ r ≡ rowFault (now (list .entry)) i ⌝ }
 {
     let mut k = 0;
@@ -84,9 +49,9 @@ fn row_fault(list: &[u64], table: &[u64; 36], i: usize) -> u64
         }
         k += 1;
     }
-    let low = field_at(list, i, 11);
-    let high = field_at(list, i, 12);
-    if low <= high { 0 } else { 12 }
+    let low = field_at(list, i, AT_LOW);
+    let high = field_at(list, i, AT_HIGH);
+    if low <= high { 0 } else { (AT_LOW as u64) + 1 }
 }
 
 // 4 FIELD over all rows ascending.
@@ -112,7 +77,7 @@ fn feeds_right(list: &[u64], i: usize) -> bool
     ensures { λ r. ⌜ r ≡ feedsRight (now (list .entry)) i ⌝ }
 {
     let n = list.len() / FIELDS;
-    let feeder = field_at(list, i, 1);
+    let feeder = field_at(list, i, AT_FEEDER);
     if i + 1 == n {
         return feeder == 0;
     }
@@ -122,7 +87,7 @@ fn feeds_right(list: &[u64], i: usize) -> bool
     if (n as u64) < feeder {
         return false;
     }
-    field_at(list, (feeder - 1) as usize, 2) != 3
+    field_at(list, (feeder - 1) as usize, AT_KIND) != 3
 }
 
 // The first row that is fed wrongly.
@@ -171,10 +136,10 @@ pub fn test_size(len: usize, room: usize) -> Tested
     if len < FIELDS {
         return Tested::Refused(Answer::Count);
     }
-    if 256 * FIELDS < len {
+    if LIST < len {
         return Tested::Refused(Answer::Count);
     }
-    if room < 3 * (len / FIELDS) {
+    if room < COLUMNS * (len / FIELDS) {
         Tested::Refused(Answer::Room)
     } else {
         Tested::Passed

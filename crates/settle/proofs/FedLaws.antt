@@ -12,7 +12,7 @@ use Rattle.grid.specs.Fold.{maxTo}
 use Rattle.grid.proofs.BoolLaws.{passes-or-fails, implies, implied, same-test}
 use Rattle.grid.proofs.FoldLaws.{Attained, maxTo-attained, le-maxTo, sumTo-zero, sumTo-others, every-at, every-of}
 use Rattle.grid.proofs.GridLaws.{leastOn-same}
-use Rattle.row.specs.Row.{rows, rowAt}
+use Rattle.layout.specs.List.{rows, rowAt}
 use Rattle.rows.specs.InRange.{InRange}
 use Rattle.rows.proofs.InRangeLaws.{row-bounded}
 use Rattle.settle.specs.Conditions.{fed, eachFed, loadOf, othersLoad, returnsAfterSelfStart, clearOf, seesOwnZone, backsUp, withinDelays, gradedAbove}

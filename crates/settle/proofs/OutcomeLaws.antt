@@ -11,7 +11,7 @@ use Rattle.grid.specs.declared.Found.the-variants.{At, Nothing}
 use Rattle.grid.specs.Round.{ceilDiv}
 use Rattle.grid.proofs.RoundLaws.{ceilDiv-leb}
 use Rattle.grid.proofs.GridLaws.{leastOn-same, leastOn-least}
-use Rattle.row.specs.declared.Row.{Row}
+use Rattle.layout.specs.declared.Row.{Row}
 use Rattle.rows.specs.InRange.{Bounded}
 use Rattle.settle.specs.declared.Cutoff.{Cutoff}
 use Rattle.settle.specs.declared.Cutoff.the-variants.{Fitted, NotFitted}

@@ -7,8 +7,8 @@ use mathlib.Core.List.{List}
 use Prim.Native.Nat.{ℕ, _+_, _*_}
 use lib.Dec.{leb, eqb}
 use Rattle.grid.specs.Fold.{sumTo, every}
-use Rattle.row.specs.declared.Row.{Row}
-use Rattle.row.specs.Row.{rows, rowAt}
+use Rattle.layout.specs.declared.Row.{Row}
+use Rattle.layout.specs.List.{rows, rowAt}
 
 -- a ≥ b
 abbrev pub atLeast : ℕ → ℕ → Bool

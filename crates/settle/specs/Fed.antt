@@ -5,8 +5,8 @@ use mathlib.Core.List.{List}
 use Prim.Native.Nat.{ℕ, _+_, _-_, _*_, _≤_}
 use lib.Dec.{leb, eqb}
 use Rattle.grid.specs.Fold.{sumTo, maxTo}
-use Rattle.row.specs.declared.Row.{Row}
-use Rattle.row.specs.Row.{rows, rowAt}
+use Rattle.layout.specs.declared.Row.{Row}
+use Rattle.layout.specs.List.{rows, rowAt}
 use Rattle.settle.specs.declared.Fed.{Fed}
 use Rattle.settle.specs.declared.Settled.{Settled}
 use Rattle.settle.specs.Conditions.{atLeast, fed, loadOf, returnsAfterSelfStart, seesOwnZone, withinDelays, margin}

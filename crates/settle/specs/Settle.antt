@@ -5,8 +5,8 @@ use Prim.Native.Nat.{ℕ}
 use Rattle.grid.specs.declared.Found.{Found}
 use Rattle.grid.specs.declared.Found.the-variants.{At, Nothing}
 use Rattle.grid.specs.Grid.{leastOn}
-use Rattle.row.specs.declared.Row.{Row}
-use Rattle.row.specs.Row.{rowAt}
+use Rattle.layout.specs.declared.Row.{Row}
+use Rattle.layout.specs.List.{rowAt}
 use Rattle.settle.specs.declared.Cutoff.{Cutoff}
 use Rattle.settle.specs.declared.Cutoff.the-variants.{Fitted, NotFitted}
 use Rattle.settle.specs.declared.Settled.{Settled}

@@ -3,7 +3,7 @@ use grid::Found;
 use grid::ceil_div;
 use grid::greater;
 use grid::least_on;
-use row::Row;
+use layout::Row;
 ghost use mathlib.Core.Path.{_≡_};
 ghost use mathlib.Core.Bool.{_&&_};
 ghost use Prim.Native.Nat.{ℕ, _-_, _≤_};

@@ -5,11 +5,12 @@ use Prim.Native.Nat.{ℕ, _*_, _≤_}
 use native.Mathlib.Nat.{mul-comm}
 use native.Mathlib.Omega.{arith}
 use lib.ListN.{length, getD, take, drop}
+use Rattle.layout.specs.Counts.{columnCount, rowsMost, cardMost}
 use Rattle.answers.specs.declared.Answer.{Answer}
 use Rattle.answers.specs.declared.Answer.the-variants.{Done}
 use Rattle.answers.specs.declared.Tested.{Tested}
 use Rattle.answers.specs.declared.Tested.the-variants.{Passed, Refused}
-use Rattle.row.specs.Row.{rows}
+use Rattle.layout.specs.List.{rows}
 use Rattle.rows.specs.Tests.{sizeTest, rowsTest}
 use Rattle.rows.proofs.InRangeLaws.{passed-in-range, passed-feeds}
 use Rattle.rows.proofs.TestLaws.{SizeRight, size-passed}
@@ -33,7 +34,7 @@ module _ (l c : List ℕ) where
 
     module _ (t : Tested) (et : t ≡ rowsTest l) (ft : t ≡ Passed) where
       -- on a card of its own with room for every row, and sums that are 0
-      pub own-ready : (z y : List ℕ) → 768 ≤ length z → 1024 ≤ length y → ((x : ℕ) → getD y x 0 ≡ 0) → AllReady l (rows l) z y
+      pub own-ready : (z y : List ℕ) → cardMost ≤ length z → 1024 ≤ length y → ((x : ℕ) → getD y x 0 ≡ 0) → AllReady l (rows l) z y
       own-ready z y h k q =
           record {
             all-rows = refl;
@@ -44,29 +45,29 @@ module _ (l c : List ℕ) where
             sums-clear = q;
           }
 
-      pub rows-to : rows l ≤ 256
+      pub rows-to : rows l ≤ rowsMost
       rows-to = omega (arith, size .most-rows)
 
-      pub room-for : 3 * rows l ≤ length c
+      pub room-for : columnCount * rows l ≤ length c
       room-for = size .card-room
 
-      calculates : (z : List ℕ) (w : Worked) → 768 ≤ length z → calculation l z ≡ w → whole l c ≡ ending c (framed (rows l * 3) c w)
+      calculates : (z : List ℕ) (w : Worked) → cardMost ≤ length z → calculation l z ≡ w → whole l c ≡ ending c (framed (rows l * columnCount) c w)
       unfolding whole after
       calculates z w h e =
           rw (sym es ∙ fs, sym et ∙ ft)
           (ap (ending c)
           (calculation-frame l (passed-in-range l (sym et ∙ ft)) (passed-feeds l (sym et ∙ ft)) z c (omega (arith, size .most-rows)) (omega (arith, size .card-room)) ∙
-          ap (framed (rows l * 3) c) e))
+          ap (framed (rows l * columnCount) c) e))
 
-      pub answered-refused : (z z′ : List ℕ) (w : Tested) (a : Answer) → 768 ≤ length z → calculation l z ≡ workedAs w z′ → w ≡ Refused a → Answered (whole l c) a c
+      pub answered-refused : (z z′ : List ℕ) (w : Tested) (a : Answer) → cardMost ≤ length z → calculation l z ≡ workedAs w z′ → w ≡ Refused a → Answered (whole l c) a c
       unfolding ending framed workedAs
       answered-refused z z′ w a h e f =
           rw (calculates z (workedAs w z′) h e, f) (record { answer = refl; card = refl })
 
       pub answered-done :
-          (z z′ c′ : List ℕ) (w : Tested) → 768 ≤ length z → calculation l z ≡ workedAs w z′ → w ≡ Passed →
-          c′ ≡ take (3 * rows l) z′ ++ drop (3 * rows l) c → Answered (whole l c) Done c′
+          (z z′ c′ : List ℕ) (w : Tested) → cardMost ≤ length z → calculation l z ≡ workedAs w z′ → w ≡ Passed →
+          c′ ≡ take (columnCount * rows l) z′ ++ drop (columnCount * rows l) c → Answered (whole l c) Done c′
       unfolding ending framed workedAs
       answered-done z z′ c′ w h e f g =
           rw (calculates z (workedAs w z′) h e, f)
-          (record { answer = refl; card = g ∙ ap (λ (n : ℕ). take n z′ ++ drop n c) (mul-comm 3 (rows l)) })
+          (record { answer = refl; card = g ∙ ap (λ (n : ℕ). take n z′ ++ drop n c) (mul-comm columnCount (rows l)) })

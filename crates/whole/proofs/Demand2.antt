@@ -14,15 +14,16 @@ use mathlib.Core.List.{List}
 use Prim.Native.Nat.{ℕ, _*_, _≤_, _<_}
 use native.Mathlib.Omega.{arith}
 use lib.ListN.{length, drop}
+use Rattle.layout.specs.Counts.{columnCount}
 use Rattle.grid.specs.declared.Found.{Found}
 use Rattle.grid.specs.declared.Found.the-variants.{At, Nothing}
 use Rattle.grid.proofs.BoolLaws.{passes-or-fails}
 use Rattle.grid.proofs.GridLaws.{Least, leastOn-least, leastOn-is}
 use Rattle.answers.specs.declared.Answer.the-variants.{Done}
-use Rattle.row.specs.declared.Row.{Row}
+use Rattle.layout.specs.declared.Row.{Row}
 use Rattle.answers.specs.declared.Tested.{Tested}
 use Rattle.answers.specs.declared.Tested.the-variants.{Passed, Refused}
-use Rattle.row.specs.Row.{rows, rowAt}
+use Rattle.layout.specs.List.{rows, rowAt}
 use Rattle.rows.specs.InRange.{InRange, Feeds}
 use Rattle.rows.specs.Tests.{sizeTest, rowsTest}
 use Rattle.rows.proofs.InRangeLaws.{in-range-passes}
@@ -42,7 +43,7 @@ use Rattle.whole.proofs.RefusedLaws.{RefusedAt, calculation-refused}
 use Rattle.whole.proofs.SettledLaws.{RowSettled, calculation-settled}
 
 module _ (l c : List ℕ) (size : sizeTest (length l) (length c) ≡ Passed) (a : InRange l) (b : Feeds l) where
-  room : rows l * 3 ≤ length c
+  room : rows l * columnCount ≤ length c
   room = omega (arith, size-passed (length l) (length c) size .card-room)
 
   calculates : whole l c ≡ ending c (calculation l c)
@@ -105,7 +106,7 @@ module _ (l c : List ℕ) (size : sizeTest (length l) (length c) ≡ Passed) (a 
       by-cases (refused x) f =
           rw (ap (λ (r : Result). r .answer) (calculates ∙ ap (ending c) f)) (calculation-refused l a b c x room f)
 
-  pub past-the-card-kept : whole l c .answer ≡ Done → drop (rows l * 3) (whole l c .card) ≡ drop (rows l * 3) c
+  pub past-the-card-kept : whole l c .answer ≡ Done → drop (rows l * columnCount) (whole l c .card) ≡ drop (rows l * columnCount) c
   past-the-card-kept e = calculation-keeps l c (whole l c .card) (finishes e) .past-rows
 
 -- the cutoff is fitted at C exactly where C is the least available value that stays clear, and sees its near fault

@@ -11,11 +11,12 @@ use lib.Dec.{eqb, ltb}
 use borrow.Author.Tests.{eqb-true, eqb-false, ltb-true, ltb-false}
 use lib.ListN.{length, getD, take, drop, take-append-drop}
 use lib.Seq.{ext-getD, length-take-le, getD-take}
+use Rattle.layout.specs.Counts.{columnCount}
 use Rattle.grid.specs.Fold.{sumTo, maxTo}
 use Rattle.grid.proofs.BoolLaws.{passes-or-fails}
 use Rattle.grid.proofs.FoldLaws.{sumTo-same, maxTo-same}
-use Rattle.row.specs.declared.Row.{Row}
-use Rattle.row.specs.Row.{rows, field, rowAt}
+use Rattle.layout.specs.declared.Row.{Row}
+use Rattle.layout.specs.List.{rows, field, rowAt}
 use Rattle.rows.specs.InRange.{InRange, Feeds}
 use Rattle.rows.proofs.InRangeLaws.{feeder-above, feeder-of-last}
 use Rattle.settle.specs.declared.Outcome.{Outcome}
@@ -78,21 +79,21 @@ take-agree n c c′ h h′ e =
     (λ x b. getD-take n c x 0 (omega arith) ∙ e x (omega arith) ∙ sym (getD-take n c′ x 0 (omega arith)))
 
 -- the numbers of a row below i + 1
-row-cases : {P : Type 0} (i x : ℕ) → x < i * 3 + 3 → (x < i * 3 → P) → (x ≡ i * 3 → P) → (x ≡ i * 3 + 1 → P) → (x ≡ i * 3 + 2 → P) → P
+row-cases : {P : Type 0} (i x : ℕ) → x < i * columnCount + columnCount → (x < i * columnCount → P) → (x ≡ i * columnCount → P) → (x ≡ i * columnCount + 1 → P) → (x ≡ i * columnCount + 2 → P) → P
 row-cases i x h lt e0 e1 e2 =
-    ⊎-elim (λ t. lt (ltb-true x (i * 3) t))
+    ⊎-elim (λ t. lt (ltb-true x (i * columnCount) t))
     (λ t.
-    let g = ltb-false x (i * 3) t in
-    ⊎-elim (λ q. e0 (eqb-true x (i * 3) q))
+    let g = ltb-false x (i * columnCount) t in
+    ⊎-elim (λ q. e0 (eqb-true x (i * columnCount) q))
     (λ q.
-    let n = eqb-false x (i * 3) q in
-    ⊎-elim (λ u. e1 (eqb-true x (i * 3 + 1) u))
-    (λ u. let m = eqb-false x (i * 3 + 1) u in e2 (omega arith))
-    (passes-or-fails (eqb x (i * 3 + 1))))
-    (passes-or-fails (eqb x (i * 3))))
-    (passes-or-fails (ltb x (i * 3)))
+    let n = eqb-false x (i * columnCount) q in
+    ⊎-elim (λ u. e1 (eqb-true x (i * columnCount + 1) u))
+    (λ u. let m = eqb-false x (i * columnCount + 1) u in e2 (omega arith))
+    (passes-or-fails (eqb x (i * columnCount + 1))))
+    (passes-or-fails (eqb x (i * columnCount))))
+    (passes-or-fails (ltb x (i * columnCount)))
 
-pub agree-next : (i : ℕ) (c c′ : List ℕ) (o : Outcome) → i * 3 + 3 ≤ length c → i * 3 + 3 ≤ length c′ → Agree (i * 3) c c′ → Agree (suc i * 3) (putRow c i o) (putRow c′ i o)
+pub agree-next : (i : ℕ) (c c′ : List ℕ) (o : Outcome) → i * columnCount + columnCount ≤ length c → i * columnCount + columnCount ≤ length c′ → Agree (i * columnCount) c c′ → Agree (suc i * columnCount) (putRow c i o) (putRow c′ i o)
 unfolding Agree
 agree-next i c c′ o h h′ e x b =
     row-cases i x (omega arith)
@@ -115,22 +116,22 @@ framed-drop n c c′ (refused a) e = refl
 
 module _ (l : List ℕ) (a : InRange l) (b : Feeds l) where
   -- cards that agree below row i settle it alike
-  pub settled-agree : (i : ℕ) (c c′ : List ℕ) → i < rows l → Agree (i * 3) c c′ → settled l (pickupIn c) (delayIn c) i ≡ settled l (pickupIn c′) (delayIn c′) i
+  pub settled-agree : (i : ℕ) (c c′ : List ℕ) → i < rows l → Agree (i * columnCount) c c′ → settled l (pickupIn c) (delayIn c) i ≡ settled l (pickupIn c′) (delayIn c′) i
   unfolding Agree
   settled-agree i c c′ h e =
       settled-same l l (pickupIn c) (pickupIn c′) (delayIn c) (delayIn c′) i refl refl (λ j g. refl) (λ j g f. refl)
-      (λ j g f. e (j * 3) (omega (arith, fed-below l b i j g f)))
-      (λ j g f. e (j * 3 + 1) (omega (arith, fed-below l b i j g f))) a a h
+      (λ j g f. e (j * columnCount) (omega (arith, fed-below l b i j g f)))
+      (λ j g f. e (j * columnCount + 1) (omega (arith, fed-below l b i j g f))) a a h
 
   frame :
-      (m i : ℕ) (c c′ : List ℕ) → i + m ≡ rows l → rows l * 3 ≤ length c → rows l * 3 ≤ length c′ → Agree (i * 3) c c′ →
-      workOut l (upFrom i m) c′ ≡ framed (rows l * 3) c′ (workOut l (upFrom i m) c)
+      (m i : ℕ) (c c′ : List ℕ) → i + m ≡ rows l → rows l * columnCount ≤ length c → rows l * columnCount ≤ length c′ → Agree (i * columnCount) c c′ →
+      workOut l (upFrom i m) c′ ≡ framed (rows l * columnCount) c′ (workOut l (upFrom i m) c)
   unfolding workOut upFrom framed onSettled
   frame zero i c c′ n h h′ e =
       let q : i ≡ rows l = omega arith in
       ap finished
-      (sym (take-append-drop (rows l * 3) c′) ∙
-      ap (λ (t : List ℕ). t ++ drop (rows l * 3) c′) (sym (take-agree (rows l * 3) c c′ h h′ (rw q at e))))
+      (sym (take-append-drop (rows l * columnCount) c′) ∙
+      ap (λ (t : List ℕ). t ++ drop (rows l * columnCount) c′) (sym (take-agree (rows l * columnCount) c c′ h h′ (rw q at e))))
   frame (suc m) i c c′ n h h′ e =
       ap (λ (s : Settled). onSettled i s (λ o. workOut l (upFrom (suc i) m) (putRow c′ i o))) (sym (settled-agree i c c′ (omega arith) e)) ∙
       by-cases (settled l (pickupIn c) (delayIn c) i)
@@ -139,14 +140,14 @@ module _ (l : List ℕ) (a : InRange l) (b : Feeds l) where
     where
       by-cases :
           (s : Settled) →
-          ((o : Outcome) → workOut l (upFrom (suc i) m) (putRow c′ i o) ≡ framed (rows l * 3) (putRow c′ i o) (workOut l (upFrom (suc i) m) (putRow c i o))) →
-          onSettled i s (λ o. workOut l (upFrom (suc i) m) (putRow c′ i o)) ≡ framed (rows l * 3) c′ (onSettled i s (λ o. workOut l (upFrom (suc i) m) (putRow c i o)))
-      by-cases (Set o) ih = ih o ∙ framed-drop (rows l * 3) (putRow c′ i o) c′ (workOut l (upFrom (suc i) m) (putRow c i o)) (putRow-drop c′ i o (rows l * 3) (omega arith))
+          ((o : Outcome) → workOut l (upFrom (suc i) m) (putRow c′ i o) ≡ framed (rows l * columnCount) (putRow c′ i o) (workOut l (upFrom (suc i) m) (putRow c i o))) →
+          onSettled i s (λ o. workOut l (upFrom (suc i) m) (putRow c′ i o)) ≡ framed (rows l * columnCount) c′ (onSettled i s (λ o. workOut l (upFrom (suc i) m) (putRow c i o)))
+      by-cases (Set o) ih = ih o ∙ framed-drop (rows l * columnCount) (putRow c′ i o) c′ (workOut l (upFrom (suc i) m) (putRow c i o)) (putRow-drop c′ i o (rows l * columnCount) (omega arith))
       by-cases NoPickup ih = refl
       by-cases NoDelay ih = refl
 
   -- the calculation on one card gives that on any other
-  pub calculation-frame : (c c′ : List ℕ) → rows l * 3 ≤ length c → rows l * 3 ≤ length c′ → calculation l c′ ≡ framed (rows l * 3) c′ (calculation l c)
+  pub calculation-frame : (c c′ : List ℕ) → rows l * columnCount ≤ length c → rows l * columnCount ≤ length c′ → calculation l c′ ≡ framed (rows l * columnCount) c′ (calculation l c)
   unfolding calculation Agree
   calculation-frame c c′ h h′ = frame (rows l) 0 c c′ (zero-add (rows l)) h h′ (λ x b. absurd (omega arith))
 
@@ -156,26 +157,26 @@ pub record Kept (n : ℕ) (c c′ : List ℕ) : Type 0 where
   pub past-rows : drop n c′ ≡ drop n c
 
 module _ (l : List ℕ) where
-  keeps-from : (m i : ℕ) (c c′ : List ℕ) → i + m ≡ rows l → workOut l (upFrom i m) c ≡ finished c′ → Kept (rows l * 3) c c′
+  keeps-from : (m i : ℕ) (c c′ : List ℕ) → i + m ≡ rows l → workOut l (upFrom i m) c ≡ finished c′ → Kept (rows l * columnCount) c c′
   unfolding workOut upFrom onSettled
   keeps-from zero i c c′ n e =
       let q : c ≡ c′ = cc in
-      record { same-length = ap length (sym q); past-rows = ap (drop (rows l * 3)) (sym q) }
+      record { same-length = ap length (sym q); past-rows = ap (drop (rows l * columnCount)) (sym q) }
   keeps-from (suc m) i c c′ n e =
       by-cases (settled l (pickupIn c) (delayIn c) i) e (λ o. keeps-from m (suc i) (putRow c i o) c′ (omega arith))
     where
       by-cases :
           (s : Settled) → onSettled i s (λ o. workOut l (upFrom (suc i) m) (putRow c i o)) ≡ finished c′ →
-          ((o : Outcome) → workOut l (upFrom (suc i) m) (putRow c i o) ≡ finished c′ → Kept (rows l * 3) (putRow c i o) c′) → Kept (rows l * 3) c c′
+          ((o : Outcome) → workOut l (upFrom (suc i) m) (putRow c i o) ≡ finished c′ → Kept (rows l * columnCount) (putRow c i o) c′) → Kept (rows l * columnCount) c c′
       by-cases (Set o) e ih =
           let k = ih o e in
           record {
             same-length = k .same-length ∙ putRow-length c i o;
-            past-rows = k .past-rows ∙ putRow-drop c i o (rows l * 3) (omega arith);
+            past-rows = k .past-rows ∙ putRow-drop c i o (rows l * columnCount) (omega arith);
           }
       by-cases NoPickup e ih = absurd (let z : _≡_ {A = ℕ} 0 1 = cc in omega arith)
       by-cases NoDelay e ih = absurd (let z : _≡_ {A = ℕ} 0 1 = cc in omega arith)
 
-  pub calculation-keeps : (c c′ : List ℕ) → calculation l c ≡ finished c′ → Kept (rows l * 3) c c′
+  pub calculation-keeps : (c c′ : List ℕ) → calculation l c ≡ finished c′ → Kept (rows l * columnCount) c c′
   unfolding calculation
   calculation-keeps c c′ e = keeps-from (rows l) 0 c c′ (zero-add (rows l)) e

@@ -6,13 +6,14 @@ use mathlib.Core.List.{List}
 use Prim.Native.Nat.{ℕ, zero, suc, _+_, _*_, _≤_, _<_}
 use native.Mathlib.Omega.{arith}
 use lib.ListN.{length}
+use Rattle.layout.specs.Counts.{columnCount}
 use Rattle.grid.specs.declared.Found.{Found}
 use Rattle.grid.specs.declared.Found.the-variants.{At, Nothing}
 use Rattle.grid.specs.Grid.{Available, leastOn}
 use Rattle.grid.proofs.BoolLaws.{not-both}
 use Rattle.grid.proofs.FoldLaws.{below-cases}
 use Rattle.grid.proofs.GridLaws.{leastOn-least, leastOn-nothing}
-use Rattle.row.specs.Row.{rows, rowAt}
+use Rattle.layout.specs.List.{rows, rowAt}
 use Rattle.rows.specs.InRange.{InRange, Feeds}
 use Rattle.rows.proofs.InRangeLaws.{row-bounded}
 use Rattle.settle.specs.declared.Outcome.{Outcome}
@@ -79,7 +80,7 @@ module _ (l : List ℕ) (a : InRange l) (b : Feeds l) (p d : ℕ → ℕ) (m : M
         no-later = time .at-most;
       }
 
-  under-next : (c : List ℕ) (i : ℕ) (o : Outcome) → i * 3 + 3 ≤ length c → Under p d c i → o .pickup ≤ p i → o .delay ≤ d i → Under p d (putRow c i o) (suc i)
+  under-next : (c : List ℕ) (i : ℕ) (o : Outcome) → i * columnCount + columnCount ≤ length c → Under p d c i → o .pickup ≤ p i → o .delay ≤ d i → Under p d (putRow c i o) (suc i)
   under-next c i o k u hp hd =
       record {
         pickups =
@@ -100,7 +101,7 @@ module _ (l : List ℕ) (a : InRange l) (b : Feeds l) (p d : ℕ → ℕ) (m : M
     pub ends : w ≡ finished card
     pub under : Under p d card (rows l)
 
-  ends-from : (n i : ℕ) (c : List ℕ) → i + n ≡ rows l → rows l * 3 ≤ length c → Under p d c i → Ends (workOut l (upFrom i n) c)
+  ends-from : (n i : ℕ) (c : List ℕ) → i + n ≡ rows l → rows l * columnCount ≤ length c → Under p d c i → Ends (workOut l (upFrom i n) c)
   unfolding workOut upFrom onSettled
   ends-from zero i c e k u =
       let q : i ≡ rows l = omega arith in
@@ -111,7 +112,7 @@ module _ (l : List ℕ) (a : InRange l) (b : Feeds l) (p d : ℕ → ℕ) (m : M
       (ends-from n (suc i) (putRow c i (s .outcome)) (omega arith) (rw (putRow-length c i (s .outcome)) k)
       (under-next c i (s .outcome) (omega arith) u (s .no-higher) (s .no-later)))
 
-  pub calculation-ends : (c : List ℕ) → rows l * 3 ≤ length c → Ends (calculation l c)
+  pub calculation-ends : (c : List ℕ) → rows l * columnCount ≤ length c → Ends (calculation l c)
   unfolding calculation
   calculation-ends c k =
       ends-from (rows l) 0 c (native.Mathlib.Nat.zero-add (rows l)) k

@@ -11,8 +11,8 @@ use borrow.Author.Tests.{leb-true, le-leb}
 use Rattle.grid.specs.Grid.{Available}
 use Rattle.grid.proofs.BoolLaws.{and-left, and-right, and-both}
 use Rattle.grid.proofs.GridLaws.{Least, leastOn-least}
-use Rattle.row.specs.declared.Row.{Row}
-use Rattle.row.specs.Row.{rows, rowAt}
+use Rattle.layout.specs.declared.Row.{Row}
+use Rattle.layout.specs.List.{rows, rowAt}
 use Rattle.rows.specs.InRange.{InRange}
 use Rattle.rows.proofs.InRangeLaws.{row-bounded}
 use Rattle.settle.specs.Conditions.{fed, eachFed, othersLoad, returnsAfterSelfStart, clearOf, seesOwnZone, backsUp, withinDelays, gradedAbove, margin}

@@ -6,12 +6,13 @@ use mathlib.Core.List.{List}
 use Prim.Native.Nat.{ℕ, zero, suc, _+_, _*_, _≤_, _<_}
 use native.Mathlib.Omega.{arith}
 use lib.ListN.{length}
+use Rattle.layout.specs.Counts.{columnCount}
 use Rattle.grid.specs.Grid.{Available}
 use Rattle.grid.proofs.BoolLaws.{fails, not-both}
 use Rattle.grid.proofs.GridLaws.{leastOn-nothing}
 use Rattle.answers.specs.declared.Answer.{Answer}
 use Rattle.answers.specs.declared.Answer.the-variants.{Pickup, Delay}
-use Rattle.row.specs.Row.{rows, rowAt}
+use Rattle.layout.specs.List.{rows, rowAt}
 use Rattle.rows.specs.InRange.{InRange, Feeds}
 use Rattle.rows.proofs.InRangeLaws.{row-bounded}
 use Rattle.settle.specs.declared.Outcome.{Outcome}
@@ -61,7 +62,7 @@ module _ (l : List ℕ) (a : InRange l) (b : Feeds l) where
       (delay-available (rowAt l i) t (delay-met l (delayIn c) i t m .D1))))
 
   refused-from :
-      (m i : ℕ) (c : List ℕ) (x : Answer) → i + m ≡ rows l → rows l * 3 ≤ length c → ((j : ℕ) → j < i → RowSettled l c j) →
+      (m i : ℕ) (c : List ℕ) (x : Answer) → i + m ≡ rows l → rows l * columnCount ≤ length c → ((j : ℕ) → j < i → RowSettled l c j) →
       workOut l (upFrom i m) c ≡ refused x → RefusedAt l x
   unfolding workOut upFrom onSettled
   refused-from zero i c x n k all e = absurd (let z : _≡_ {A = ℕ} 0 1 = cc in omega arith)
@@ -79,6 +80,6 @@ module _ (l : List ℕ) (a : InRange l) (b : Feeds l) where
       by-cases NoDelay s e ih =
           record { row = i; within = omega arith; card = c; rows-below = all; why = inr (cc, no-delay-fits c i s) }
 
-  pub calculation-refused : (c : List ℕ) (x : Answer) → rows l * 3 ≤ length c → calculation l c ≡ refused x → RefusedAt l x
+  pub calculation-refused : (c : List ℕ) (x : Answer) → rows l * columnCount ≤ length c → calculation l c ≡ refused x → RefusedAt l x
   unfolding calculation
   calculation-refused c x k e = refused-from (rows l) 0 c x (native.Mathlib.Nat.zero-add (rows l)) k (λ j g. absurd (omega arith)) e

@@ -4,8 +4,9 @@ use mathlib.Core.List.{List}
 use Prim.Native.Nat.{ℕ, zero, suc, _+_, _*_, _≤_, _<_}
 use native.Mathlib.Omega.{arith}
 use lib.ListN.{length}
+use Rattle.layout.specs.Counts.{columnCount}
 use Rattle.grid.proofs.FoldLaws.{below-cases}
-use Rattle.row.specs.Row.{rows}
+use Rattle.layout.specs.List.{rows}
 use Rattle.rows.specs.InRange.{InRange, Feeds}
 use Rattle.settle.specs.declared.Outcome.{Outcome}
 use Rattle.settle.specs.declared.Settled.{Settled}
@@ -26,7 +27,7 @@ pub record RowSettled (l c : List ℕ) (j : ℕ) : Type 0 where
   pub cutoff : cutoffIn c j ≡ printed (outcome .cutoff)
 
 -- a row put in leaves the rows below it as they were
-pub putRow-agrees : (c : List ℕ) (i : ℕ) (o : Outcome) (n : ℕ) → n ≤ i * 3 → Agree n c (putRow c i o)
+pub putRow-agrees : (c : List ℕ) (i : ℕ) (o : Outcome) (n : ℕ) → n ≤ i * columnCount → Agree n c (putRow c i o)
 unfolding Agree
 putRow-agrees c i o n h x b = sym (putRow-other c i o x (λ e. omega arith) (λ e. omega arith) (λ e. omega arith))
 
@@ -37,24 +38,24 @@ module _ (l : List ℕ) (a : InRange l) (b : Feeds l) where
   still-settled i c o h j g r =
       record {
         outcome = r .outcome;
-        settles = sym (settled-agree l a b j c (putRow c i o) (omega arith) (putRow-agrees c i o (j * 3) (omega arith))) ∙ r .settles;
-        pickup = sym (putRow-agrees c i o (i * 3) (omega arith) (j * 3) (omega arith)) ∙ r .pickup;
-        delay = sym (putRow-agrees c i o (i * 3) (omega arith) (j * 3 + 1) (omega arith)) ∙ r .delay;
-        cutoff = sym (putRow-agrees c i o (i * 3) (omega arith) (j * 3 + 2) (omega arith)) ∙ r .cutoff;
+        settles = sym (settled-agree l a b j c (putRow c i o) (omega arith) (putRow-agrees c i o (j * columnCount) (omega arith))) ∙ r .settles;
+        pickup = sym (putRow-agrees c i o (i * columnCount) (omega arith) (j * columnCount) (omega arith)) ∙ r .pickup;
+        delay = sym (putRow-agrees c i o (i * columnCount) (omega arith) (j * columnCount + 1) (omega arith)) ∙ r .delay;
+        cutoff = sym (putRow-agrees c i o (i * columnCount) (omega arith) (j * columnCount + 2) (omega arith)) ∙ r .cutoff;
       }
 
-  now-settled : (i : ℕ) (c : List ℕ) (o : Outcome) → i < rows l → rows l * 3 ≤ length c → settled l (pickupIn c) (delayIn c) i ≡ Set o → RowSettled l (putRow c i o) i
+  now-settled : (i : ℕ) (c : List ℕ) (o : Outcome) → i < rows l → rows l * columnCount ≤ length c → settled l (pickupIn c) (delayIn c) i ≡ Set o → RowSettled l (putRow c i o) i
   now-settled i c o h k e =
       record {
         outcome = o;
-        settles = sym (settled-agree l a b i c (putRow c i o) h (putRow-agrees c i o (i * 3) (omega arith))) ∙ e;
+        settles = sym (settled-agree l a b i c (putRow c i o) h (putRow-agrees c i o (i * columnCount) (omega arith))) ∙ e;
         pickup = putRow-pickup c i o (omega arith);
         delay = putRow-delay c i o (omega arith);
         cutoff = putRow-cutoff c i o (omega arith);
       }
 
   pub next-settled :
-      (i : ℕ) (c : List ℕ) (o : Outcome) → i < rows l → rows l * 3 ≤ length c → settled l (pickupIn c) (delayIn c) i ≡ Set o →
+      (i : ℕ) (c : List ℕ) (o : Outcome) → i < rows l → rows l * columnCount ≤ length c → settled l (pickupIn c) (delayIn c) i ≡ Set o →
       ((j : ℕ) → j < i → RowSettled l c j) → (j : ℕ) → j < suc i → RowSettled l (putRow c i o) j
   next-settled i c o h k e all j g =
       below-cases g
@@ -62,7 +63,7 @@ module _ (l : List ℕ) (a : InRange l) (b : Feeds l) where
       (λ q. still-settled i c o h j q (all j q))
 
   settled-from :
-      (m i : ℕ) (c c′ : List ℕ) → i + m ≡ rows l → rows l * 3 ≤ length c → ((j : ℕ) → j < i → RowSettled l c j) →
+      (m i : ℕ) (c c′ : List ℕ) → i + m ≡ rows l → rows l * columnCount ≤ length c → ((j : ℕ) → j < i → RowSettled l c j) →
       workOut l (upFrom i m) c ≡ finished c′ → (j : ℕ) → j < rows l → RowSettled l c′ j
   unfolding workOut upFrom onSettled
   settled-from zero i c c′ n k all e j h =
@@ -80,6 +81,6 @@ module _ (l : List ℕ) (a : InRange l) (b : Feeds l) where
       by-cases NoPickup s e ih = absurd (let z : _≡_ {A = ℕ} 0 1 = cc in omega arith)
       by-cases NoDelay s e ih = absurd (let z : _≡_ {A = ℕ} 0 1 = cc in omega arith)
 
-  pub calculation-settled : (c c′ : List ℕ) → rows l * 3 ≤ length c → calculation l c ≡ finished c′ → (j : ℕ) → j < rows l → RowSettled l c′ j
+  pub calculation-settled : (c c′ : List ℕ) → rows l * columnCount ≤ length c → calculation l c ≡ finished c′ → (j : ℕ) → j < rows l → RowSettled l c′ j
   unfolding calculation
   calculation-settled c c′ k e = settled-from (rows l) 0 c c′ (native.Mathlib.Nat.zero-add (rows l)) k (λ j g. absurd (omega arith)) e

@@ -8,7 +8,7 @@ use Rattle.answers.specs.declared.Answer.{Answer}
 use Rattle.answers.specs.declared.Answer.the-variants.{Done}
 use Rattle.answers.specs.declared.Tested.{Tested}
 use Rattle.answers.specs.declared.Tested.the-variants.{Passed, Refused}
-use Rattle.row.specs.Row.{rows}
+use Rattle.layout.specs.List.{rows}
 use Rattle.rows.specs.Tests.{sizeTest, rowsTest}
 use Rattle.work.specs.WorkOut.{Worked, finished, refused, workOut, upFrom}
 

@@ -4,7 +4,7 @@ use answers::Given;
 use answers::Tested;
 use answers::numbers;
 use copy::put;
-use row::FIELDS;
+use layout::FIELDS;
 use rows::test_rows;
 use rows::test_size;
 use work::work_row;

@@ -6,6 +6,7 @@ use Prim.Native.Nat.{ℕ, _+_, _*_, _≤_, _<_}
 use native.Mathlib.Omega.{arith}
 use lib.ListN.{length, getD, set, drop, length-set}
 use lib.Seq.{getD-set-same, getD-set-other, drop-set-lt}
+use Rattle.layout.specs.Counts.{columnCount}
 use Rattle.settle.specs.declared.Outcome.{Outcome}
 use Rattle.settle.specs.declared.Fed.{Fed}
 use Rattle.settle.specs.Settle.{printed}
@@ -27,45 +28,45 @@ longer l i a h = rw (length-set l i a) h
 
 module _ (c : List ℕ) (i : ℕ) (o : Outcome) where
   c₁ : List ℕ
-  c₁ = set c (i * 3) (o .pickup)
+  c₁ = set c (i * columnCount) (o .pickup)
 
   c₂ : List ℕ
-  c₂ = set c₁ (i * 3 + 1) (o .delay)
+  c₂ = set c₁ (i * columnCount + 1) (o .delay)
 
   pub putRow-length : length (putRow c i o) ≡ length c
   unfolding putRow
   putRow-length = simp length-set
 
   -- the numbers of other rows stay
-  pub putRow-other : (x : ℕ) → x ≢ i * 3 → x ≢ i * 3 + 1 → x ≢ i * 3 + 2 → getD (putRow c i o) x 0 ≡ getD c x 0
+  pub putRow-other : (x : ℕ) → x ≢ i * columnCount → x ≢ i * columnCount + 1 → x ≢ i * columnCount + 2 → getD (putRow c i o) x 0 ≡ getD c x 0
   unfolding putRow c₁ c₂
-  putRow-other x a b d = other c₂ (i * 3 + 2) _ d ∙ other c₁ (i * 3 + 1) _ b ∙ other c (i * 3) _ a
+  putRow-other x a b d = other c₂ (i * columnCount + 2) _ d ∙ other c₁ (i * columnCount + 1) _ b ∙ other c (i * columnCount) _ a
 
   pub putRow-pickup-other : (j : ℕ) → (j ≡ i → ⊥) → pickupIn (putRow c i o) j ≡ pickupIn c j
-  putRow-pickup-other j n = putRow-other (j * 3) (λ e. n (omega arith)) (λ e. omega arith) (λ e. omega arith)
+  putRow-pickup-other j n = putRow-other (j * columnCount) (λ e. n (omega arith)) (λ e. omega arith) (λ e. omega arith)
 
   pub putRow-delay-other : (j : ℕ) → (j ≡ i → ⊥) → delayIn (putRow c i o) j ≡ delayIn c j
-  putRow-delay-other j n = putRow-other (j * 3 + 1) (λ e. omega arith) (λ e. n (omega arith)) (λ e. omega arith)
+  putRow-delay-other j n = putRow-other (j * columnCount + 1) (λ e. omega arith) (λ e. n (omega arith)) (λ e. omega arith)
 
-  pub putRow-drop : (n : ℕ) → i * 3 + 3 ≤ n → drop n (putRow c i o) ≡ drop n c
+  pub putRow-drop : (n : ℕ) → i * columnCount + columnCount ≤ n → drop n (putRow c i o) ≡ drop n c
   unfolding putRow c₁ c₂
   putRow-drop n h =
-      drop-set-lt n c₂ (i * 3 + 2) _ (omega arith) ∙ drop-set-lt n c₁ (i * 3 + 1) _ (omega arith) ∙ drop-set-lt n c (i * 3) _ (omega arith)
+      drop-set-lt n c₂ (i * columnCount + 2) _ (omega arith) ∙ drop-set-lt n c₁ (i * columnCount + 1) _ (omega arith) ∙ drop-set-lt n c (i * columnCount) _ (omega arith)
 
-  module _ (h : i * 3 + 3 ≤ length c) where
+  module _ (h : i * columnCount + columnCount ≤ length c) where
     pub putRow-pickup : pickupIn (putRow c i o) i ≡ o .pickup
     unfolding putRow c₁ c₂
     putRow-pickup =
-        other c₂ (i * 3 + 2) _ (λ e. omega arith) ∙ other c₁ (i * 3 + 1) _ (λ e. omega arith) ∙ same c (i * 3) (o .pickup) (omega arith)
+        other c₂ (i * columnCount + 2) _ (λ e. omega arith) ∙ other c₁ (i * columnCount + 1) _ (λ e. omega arith) ∙ same c (i * columnCount) (o .pickup) (omega arith)
 
     pub putRow-delay : delayIn (putRow c i o) i ≡ o .delay
     unfolding putRow c₁ c₂
     putRow-delay =
-        other c₂ (i * 3 + 2) _ (λ e. omega arith) ∙ same c₁ (i * 3 + 1) (o .delay) (longer c (i * 3) _ (omega arith))
+        other c₂ (i * columnCount + 2) _ (λ e. omega arith) ∙ same c₁ (i * columnCount + 1) (o .delay) (longer c (i * columnCount) _ (omega arith))
 
     pub putRow-cutoff : cutoffIn (putRow c i o) i ≡ printed (o .cutoff)
     unfolding putRow c₁ c₂
-    putRow-cutoff = same c₂ (i * 3 + 2) _ (longer c₁ (i * 3 + 1) _ (longer c (i * 3) _ (omega arith)))
+    putRow-cutoff = same c₂ (i * columnCount + 2) _ (longer c₁ (i * columnCount + 1) _ (longer c (i * columnCount) _ (omega arith)))
 
 module _ (s : List ℕ) (k : ℕ) (f : Fed) where
   s₁ : List ℕ

@@ -6,10 +6,10 @@ use Prim.Native.Nat.{ℕ, _+_, _-_}
 use lib.Dec.{eqb}
 use lib.ListN.{length}
 use borrow.Author.Tests.{eq-eqb, ne-eqb}
-use Rattle.row.specs.declared.Row.{Row}
+use Rattle.layout.specs.declared.Row.{Row}
 use Rattle.answers.specs.declared.Answer.the-variants.{Pickup, Delay}
 use Rattle.answers.specs.declared.Tested.the-variants.{Passed, Refused}
-use Rattle.row.specs.Row.{rowAt}
+use Rattle.layout.specs.List.{rowAt}
 use Rattle.settle.specs.declared.Fed.{Fed}
 use Rattle.settle.specs.declared.Outcome.{Outcome}
 use Rattle.settle.specs.declared.Settled.{Settled}

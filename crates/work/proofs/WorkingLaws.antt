@@ -10,10 +10,11 @@ use native.Mathlib.Omega.{arith}
 use lib.Dec.{eqb}
 use lib.ListN.{length}
 use borrow.Author.Tests.{ne-eqb, eqb-true, eqb-false}
+use Rattle.layout.specs.Counts.{columnCount}
 use Rattle.grid.proofs.BoolLaws.{passes-or-fails, not-both, and-left}
 use Rattle.grid.proofs.FoldLaws.{sumTo-bound, maxTo-bound, sumTo-same, maxTo-same, sum-next, max-next}
-use Rattle.row.specs.declared.Row.{Row}
-use Rattle.row.specs.Row.{rows, rowAt}
+use Rattle.layout.specs.declared.Row.{Row}
+use Rattle.layout.specs.List.{rows, rowAt}
 use Rattle.rows.proofs.InRangeLaws.{row-bounded, feeder-above, feeder-of-last}
 use Rattle.settle.specs.declared.Fed.{Fed}
 use Rattle.settle.specs.declared.Outcome.{Outcome}
@@ -124,7 +125,7 @@ module _ (l : List ℕ) (done : ℕ → Bool) (c s : List ℕ) (w : Working l do
     c′ : List ℕ
     c′ = putRow c i o
 
-    fits : i * 3 + 3 ≤ length c
+    fits : i * columnCount + columnCount ≤ length c
     fits = omega (arith, w .card-room)
 
     -- what row i asks counts where it is fed

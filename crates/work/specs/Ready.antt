@@ -3,9 +3,10 @@ use mathlib.Core.Path.{_≡_}
 use mathlib.Core.List.{List}
 use Prim.Native.Nat.{ℕ, _+_, _-_, _*_, _≤_}
 use lib.ListN.{length}
-use Rattle.row.specs.declared.Row.{Row}
+use Rattle.layout.specs.Counts.{fieldCount, columnCount}
+use Rattle.layout.specs.declared.Row.{Row}
 use Rattle.answers.specs.declared.Tested.{Tested}
-use Rattle.row.specs.Row.{rowAt}
+use Rattle.layout.specs.List.{rowAt}
 use Rattle.rows.specs.InRange.{Bounded}
 use Rattle.settle.specs.Fed.{FedBounded}
 use Rattle.work.specs.Sums.{fedAt, Step}
@@ -20,8 +21,8 @@ pub record PushReady (r : Row) (p d : ℕ) (s : List ℕ) : Type 0 where
 
 -- row i can be worked out
 pub record WorkReady (l : List ℕ) (i : ℕ) (c s : List ℕ) : Type 0 where
-  pub in-list : i * 18 + 18 ≤ length l
-  pub in-card : i * 3 + 3 ≤ length c
+  pub in-list : i * fieldCount + fieldCount ≤ length l
+  pub in-card : i * columnCount + columnCount ≤ length c
   pub in-sums : i * 4 + 4 ≤ length s
   pub bounded : Bounded (rowAt l i)
   pub fed-bounded : FedBounded (fedAt s i)

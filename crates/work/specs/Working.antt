@@ -5,8 +5,9 @@ use mathlib.Core.Bool.{Bool, true, cond, _&&_}
 use mathlib.Core.List.{List}
 use Prim.Native.Nat.{ℕ, _*_, _≤_, _<_}
 use lib.ListN.{length}
+use Rattle.layout.specs.Counts.{columnCount, rowsMost}
 use Rattle.grid.specs.Fold.{sumTo, maxTo}
-use Rattle.row.specs.Row.{rows, rowAt}
+use Rattle.layout.specs.List.{rows, rowAt}
 use Rattle.rows.specs.InRange.{InRange, Feeds}
 use Rattle.settle.specs.declared.Fed.{Fed}
 use Rattle.settle.specs.Conditions.{fed, loadOf}
@@ -26,10 +27,10 @@ gatheredBy done l p d k =
 
 -- a list, a card and sums in the midst of the work
 pub record Working (l : List ℕ) (done : ℕ → Bool) (c s : List ℕ) : Type 0 where
-  pub rows-to : rows l ≤ 256
+  pub rows-to : rows l ≤ rowsMost
   pub in-range : InRange l
   pub feeds : Feeds l
-  pub card-room : rows l * 3 ≤ length c
+  pub card-room : rows l * columnCount ≤ length c
   pub sums-room : rows l * 4 ≤ length s
   pub pickups-to : (j : ℕ) → j < rows l → done j ≡ true → pickupIn c j ≤ 100000000
   pub delays-to : (j : ℕ) → j < rows l → done j ≡ true → delayIn c j ≤ 100000

@@ -3,8 +3,8 @@
 use answers::Answer;
 use answers::Tested;
 use grid::greater;
-use row::Row;
-use row::row_at;
+use layout::Row;
+use layout::row_at;
 use settle::Fed;
 use settle::Outcome;
 use settle::Settled;
@@ -14,8 +14,9 @@ use settle::settle;
 ghost use mathlib.Core.Path.{_≡_};
 ghost use Prim.Native.Nat.{_+_, _-_, _*_, _<_, _≤_};
 ghost use lib.ListN.{length};
+ghost use Rattle.layout.specs.Counts.{columnCount};
 ghost use Rattle.rows.specs.InRange.{Bounded};
-ghost use Rattle.row.specs.Row.{rowAt};
+ghost use Rattle.layout.specs.List.{rowAt};
 ghost use Rattle.settle.specs.Fed.{FedBounded};
 ghost use Rattle.work.specs.Card.{putRow};
 ghost use Rattle.work.specs.Ready.{PushReady, WorkReady, Stepped};
@@ -46,7 +47,7 @@ fn put_fed(sums: &mut [u64], k: usize, f: Fed)
 }
 
 fn put_row(card: &mut [u64], i: usize, o: Outcome)
-    requires { ⌜ i * 3 + 3 ≤ length (now card) ⌝ }
+    requires { ⌜ i * columnCount + columnCount ≤ length (now card) ⌝ }
     ensures { λ _. ⌜ now (card .exit) ≡ putRow (now (card .entry)) i o ⌝ }
 {
     let at = i * 3;

@@ -3,6 +3,7 @@ use mathlib.Core.Path.{refl}
 use native.Mathlib.Omega.{arith}
 use lib.ListN.{replicate}
 use borrow.Author.Needs.{needs}
+use Rattle.layout.specs.Counts.{fieldCount}
 use Rattle.change.proofs.EntryLaws.{exchange-done, exchange-refused}
 use Rattle.change.proofs.exchange.Statement.{statement}
 use Rattle.change.proofs.exchange.Tie as tie
@@ -55,7 +56,7 @@ same-length-2 c = search needs
 returns : tie.Need-returns
 returns c =
     let a = c .before .before .before .before .before .before .before .before .before .before .before .before .before .before .before .before .before .before .before .before .before .before .before .before .before .pre in
-    exchange-refused _ _ _ _ _ (c .before .before .before .before .before .before .before .before .before .before .before .before .before .before .before .put-list2 .ensures) _ _ (c .before .before .before .before .before .before .before .before .before .before .rework .ensures) _ (replicate 18 0) _ _ (c .before .before .before .before .before .before .tested .given .1)
+    exchange-refused _ _ _ _ _ (c .before .before .before .before .before .before .before .before .before .before .before .before .before .before .before .put-list2 .ensures) _ _ (c .before .before .before .before .before .before .before .before .before .before .rework .ensures) _ (replicate fieldCount 0) _ _ (c .before .before .before .before .before .before .tested .given .1)
     (record { in-list = omega (arith, a .rework .is-row); row-length = a .row-length }) refl (c .before .before .before .before .before .before .before .before .before .before .before .before .before .before .before .before .before .before .put-list .ensures) (c .before .before .put-list3 .ensures)
 
 enum-told : tie.Need-enum-told

@@ -1,6 +1,6 @@
 -- `rows::test_fields` meets its contract: the loop has passed rows without fault, so the first at fault is the first of all.
--- Assumes nothing.
 use native.Mathlib.Omega.{arith}
+use borrow.Author.Needs.{needs}
 use mathlib.Core.Path.{refl}
 use Prim.Native.Nat.{_-_}
 use Rattle.grid.proofs.FirstLaws.{Passed, passed-none, passed-more, passed-found, passed-all}
@@ -18,11 +18,14 @@ abbrev μ-loop : tie.MeasureT-loop
 loop-holds : tie.Need-loop-holds Inv-loop μ-loop
 loop-holds c = passed-none _ _
 
+slice-aggregate-row-fault : tie.Need-slice-aggregate-row-fault Inv-loop μ-loop
+slice-aggregate-row-fault c = search needs
+
 row-fault-requires : tie.Need-row-fault-requires Inv-loop μ-loop
 row-fault-requires c κs = (omega arith, refl)
 
-add-t11 : tie.Need-add-t11 Inv-loop μ-loop
-add-t11 c = omega arith
+add-t12 : tie.Need-add-t12 Inv-loop μ-loop
+add-t12 c = omega arith
 
 returns : tie.Need-returns Inv-loop μ-loop
 returns c =
@@ -49,8 +52,9 @@ test-fields-spec =
     Inv-loop
     μ-loop
     loop-holds
+    slice-aggregate-row-fault
     row-fault-requires
-    add-t11
+    add-t12
     returns
     add-i
     loop-less

@@ -1,5 +1,4 @@
 -- `rows::test_size` meets its contract: each return is a way in which the sizes are judged.
--- Assumes nothing.
 use native.Mathlib.Omega.{arith}
 use borrow.Author.Needs.{needs}
 use Rattle.rows.proofs.TestLaws.{size-ragged, size-none, size-over, size-short, size-right}
@@ -11,9 +10,6 @@ returns c = size-ragged _ _ (c .if1 .taken)
 
 returns-2 : tie.Need-returns-2
 returns-2 c = size-none _ _ (omega arith) (c .if2 .taken)
-
-mul-if3 : tie.Need-mul-if3
-mul-if3 c = search needs
 
 returns-3 : tie.Need-returns-3
 returns-3 c = size-over _ _ (omega arith) (c .before .if2 .left) (c .if3 .taken)
@@ -29,4 +25,4 @@ returns-5 c = size-right _ _ (omega arith) (c .before .before .if2 .left) (c .be
 
 pub test-size-spec : {M : Type 1} → statement M
 test-size-spec =
-    tie.close (tie.spec returns returns-2 mul-if3 returns-3 mul-if4 returns-4 returns-5)
+    tie.close (tie.spec returns returns-2 returns-3 mul-if4 returns-4 returns-5)

@@ -5,6 +5,7 @@ use borrow.Author.Needs.{needs}
 use mathlib.Core.Path.{_≡_}
 use lib.Dec.{lit≤}
 use lib.ListN.{length}
+use Rattle.layout.specs.Counts.{cardMost}
 use Rattle.whole.proofs.AllLaws.{clear-reads}
 use Rattle.whole.proofs.AnswerLaws.{answered-size, answered-rows, own-ready, rows-to, room-for, answered-refused, answered-done}
 use Rattle.whole.proofs.answer.Statement.{statement}
@@ -65,7 +66,7 @@ copy-front-requires : tie.Need-copy-front-requires
 copy-front-requires c κs =
     let a = c .before .before .before .before .before .before .before .before .before .before .before .before .before .before .before .before .before .args in
     let n = rows-to (a .list .now) (a .card .now) _ (c .before .before .before .before .before .before .before .before .before .before .before .before .before .before .test-size .ensures) (c .before .before .before .before .before .before .before .before .before .before .before .before .enum-told .given .1) _ (c .before .before .before .before .before .before .before .before .before .before .before .test-rows .ensures) (c .before .before .before .before .before .before .before .before .before .enum-told2 .given .1) in
-    let k : length (c .before .before .before .before .before .before .work-all .last .1 .1 .0) ≡ 768 = c .before .before .before .before .before .before .work-all .kept .1 .1 .0 in (
+    let k : length (c .before .before .before .before .before .before .work-all .last .1 .1 .0) ≡ cardMost = c .before .before .before .before .before .before .work-all .kept .1 .1 .0 in (
       room-for (a .list .now) (a .card .now) _ (c .before .before .before .before .before .before .before .before .before .before .before .before .before .before .test-size .ensures) (c .before .before .before .before .before .before .before .before .before .before .before .before .enum-told .given .1) _ (c .before .before .before .before .before .before .before .before .before .before .before .test-rows .ensures) (c .before .before .before .before .before .before .before .before .before .enum-told2 .given .1),
       omega (arith, n),
     )

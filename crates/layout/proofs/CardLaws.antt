@@ -1,0 +1,53 @@
+-- A card after a row is put in: that row is the one put in, the others stay, and so does what stands past them.
+use mathlib.Core.Path.{_≡_, refl, sym, ap, _∙_}
+use mathlib.Core.Logic.{_≢_}
+use mathlib.Core.List.{List}
+use Prim.Native.Nat.{ℕ, zero, suc, _+_, _*_, _≤_, _<_}
+use native.Mathlib.Omega.{arith}
+use lib.ListN.{length, getD, take, drop}
+use lib.Seq.{length-sets}
+use Rattle.copy.proofs.BlockLaws.{block-own, block-other, drop-sets, blocks-agree}
+use Rattle.layout.specs.declared.CardRow.{CardRow}
+use Rattle.layout.specs.Counts.{columnCount}
+use Rattle.layout.specs.Card.{column, cardRowAt, columnsOf, putCardRow}
+
+-- a card row is its columns
+pub same-columns : {k k′ : CardRow} → k .pickup ≡ k′ .pickup → k .delay ≡ k′ .delay → k .cutoff ≡ k′ .cutoff → k ≡ k′
+same-columns p d q = λ t. record { pickup = p t; delay = d t; cutoff = q t }
+
+pub column-of : (c : List ℕ) (i k : ℕ) → k < columnCount → column c i k ≡ getD (columnsOf (cardRowAt c i)) k 0
+column-of c i zero h = refl
+column-of c i (suc zero) h = refl
+column-of c i (suc (suc zero)) h = refl
+column-of c i (suc (suc (suc k))) h = absurd (omega arith)
+
+module _ (c : List ℕ) (i : ℕ) (k : CardRow) where
+  pub putCardRow-length : length (putCardRow c i k) ≡ length c
+  unfolding putCardRow
+  putCardRow-length = length-sets c (i * columnCount) (columnsOf k)
+
+  pub putCardRow-own : i * columnCount + columnCount ≤ length c → cardRowAt (putCardRow c i k) i ≡ k
+  unfolding putCardRow
+  putCardRow-own h = same-columns (own 0 (omega arith)) (own 1 (omega arith)) (own 2 (omega arith))
+    where
+      own : (x : ℕ) → x < columnCount → column (putCardRow c i k) i x ≡ getD (columnsOf k) x 0
+      own x b = block-own columnCount c i (columnsOf k) x b h
+
+  pub putCardRow-other : (j : ℕ) → j ≢ i → cardRowAt (putCardRow c i k) j ≡ cardRowAt c j
+  unfolding putCardRow
+  putCardRow-other j n = same-columns (other 0 (omega arith)) (other 1 (omega arith)) (other 2 (omega arith))
+    where
+      other : (x : ℕ) → x < columnCount → column (putCardRow c i k) j x ≡ column c j x
+      other x b = block-other columnCount c i (columnsOf k) j x n b (omega arith)
+
+  pub putCardRow-drop : (n : ℕ) → i * columnCount + columnCount ≤ n → drop n (putCardRow c i k) ≡ drop n c
+  unfolding putCardRow
+  putCardRow-drop n h = drop-sets (columnsOf k) c (i * columnCount) n h
+
+-- cards whose first n rows are equal have the same front
+pub cards-agree :
+    (n : ℕ) (c c′ : List ℕ) → n * columnCount ≤ length c → n * columnCount ≤ length c′ →
+    ((j : ℕ) → j < n → cardRowAt c j ≡ cardRowAt c′ j) → take (n * columnCount) c ≡ take (n * columnCount) c′
+cards-agree n c c′ h h′ e =
+    blocks-agree columnCount n c c′ (omega arith) h h′
+    (λ j k b g. column-of c j k g ∙ ap (λ (r : CardRow). getD (columnsOf r) k 0) (e j b) ∙ sym (column-of c′ j k g))

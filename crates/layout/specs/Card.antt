@@ -1,0 +1,30 @@
+-- [01 §4] A card lent as numbers: its rows one after the other, column by column. Rows are counted from 0. Definitions only.
+use mathlib.Core.List.{List, [], _∷_}
+use Prim.Native.Nat.{ℕ, _+_, _*_}
+use lib.ListN.{getD}
+use lib.Seq.{sets}
+use Rattle.layout.specs.declared.CardRow.{CardRow}
+use Rattle.layout.specs.Counts.{columnCount}
+
+-- the number in column k of card row i
+abbrev pub column : List ℕ → ℕ → ℕ → ℕ
+column c i k = getD c (i * columnCount + k) 0
+
+-- card row i, and its columns in their order
+abbrev pub cardRowAt : List ℕ → ℕ → CardRow
+cardRowAt c i = record { pickup = column c i 0; delay = column c i 1; cutoff = column c i 2 }
+
+abbrev pub columnsOf : CardRow → List ℕ
+columnsOf k = k .pickup ∷ k .delay ∷ k .cutoff ∷ []
+
+-- the card with another row i
+unfoldable pub putCardRow : List ℕ → ℕ → CardRow → List ℕ
+putCardRow c i k = sets c (i * columnCount) (columnsOf k)
+
+-- the least and the greatest number of each column of a lent card, in the order of the card [01 §4, 9 CARD]
+abbrev pub columnBounds : List ℕ
+columnBounds =
+    1 ∷ 100000000 ∷  -- pickup
+    0 ∷ 100000 ∷  -- delay
+    0 ∷ 100000000 ∷  -- cutoff
+    []

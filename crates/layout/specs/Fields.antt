@@ -1,0 +1,52 @@
+-- [01 §2] The table of fields: their names by index, counted from 0, and the numbers allowed in each. Definitions only.
+use mathlib.Core.Bool.{Bool, _&&_}
+use mathlib.Core.List.{List, [], _∷_}
+use Prim.Native.Nat.{ℕ, _+_, _*_}
+use lib.Dec.{leb}
+use lib.ListN.{getD}
+
+-- the fields that other definitions name
+abbrev pub atFeeder : ℕ
+atFeeder = 1
+
+abbrev pub atKind : ℕ
+atKind = 2
+
+abbrev pub atLow : ℕ
+atLow = 11
+
+abbrev pub atHigh : ℕ
+atHigh = 12
+
+-- the least and the greatest number allowed in each field, in the order of section 2's table
+abbrev pub bounds : List ℕ
+bounds =
+    1 ∷ 256 ∷  -- row
+    0 ∷ 256 ∷  -- feeds_from
+    1 ∷ 3 ∷  -- kind
+    100 ∷ 500000 ∷  -- volts
+    1 ∷ 100000000 ∷  -- work
+    1000 ∷ 10000 ∷  -- selfstart
+    800 ∷ 1000 ∷  -- return
+    1 ∷ 100000000 ∷  -- far
+    1 ∷ 100000000 ∷  -- clear
+    1 ∷ 100000000 ∷  -- near
+    1000 ∷ 2000 ∷  -- factor
+    1 ∷ 100000000 ∷  -- low
+    1 ∷ 100000000 ∷  -- high
+    1 ∷ 100000000 ∷  -- step
+    1 ∷ 3 ∷  -- device
+    0 ∷ 100000 ∷  -- floor
+    0 ∷ 100000 ∷  -- ceiling
+    0 ∷ 1 ∷  -- backed
+    []
+
+-- the least and the greatest number of entry k of such a table, and a number between them
+abbrev pub leastIn : List ℕ → ℕ → ℕ
+leastIn table k = getD table (2 * k) 0
+
+abbrev pub greatestIn : List ℕ → ℕ → ℕ
+greatestIn table k = getD table (2 * k + 1) 0
+
+unfoldable pub inBounds : List ℕ → ℕ → ℕ → Bool
+inBounds table k x = leb (leastIn table k) x && leb x (greatestIn table k)

@@ -1,0 +1,4 @@
+pub mod Card
+pub mod Counts
+pub mod Fields
+pub mod List

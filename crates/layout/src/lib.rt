@@ -1,0 +1,140 @@
+// The layout of a list and of a card lent as numbers: counts, tables of bounds, rows [01 §2, §4].
+// Rows, fields and columns are counted from 0 here: index i is row number i + 1, index k is field number k + 1.
+use copy::put;
+ghost use mathlib.Core.Path.{_≡_};
+ghost use Prim.Native.Nat.{_+_, _*_, _<_, _≤_};
+ghost use lib.ListN.{length};
+ghost use Rattle.layout.specs.Card.{column, cardRowAt, putCardRow};
+ghost use Rattle.layout.specs.Counts.{fieldCount, columnCount};
+ghost use Rattle.layout.specs.Fields.{inBounds};
+ghost use Rattle.layout.specs.List.{field, rowAt};
+
+// A row of a list has so many fields, a row of a card so many columns, and a list so many rows at most.
+pub const FIELDS: usize = 18;
+
+pub const COLUMNS: usize = 3;
+
+pub const ROWS: usize = 256;
+
+// Room for the longest list and for its card.
+pub const LIST: usize = ROWS * FIELDS;
+
+pub const CARD: usize = ROWS * COLUMNS;
+
+// The fields that other functions name.
+pub const AT_FEEDER: usize = 1;
+
+pub const AT_KIND: usize = 2;
+
+pub const AT_LOW: usize = 11;
+
+pub const AT_HIGH: usize = 12;
+
+// The least and the greatest number allowed, field by field [01 §2].
+pub const BOUNDS: [u64; 2 * FIELDS] = [
+    1, 256, 0, 256, 1, 3, 100, 500000, 1, 100000000, 1000, 10000, 800, 1000,
+    1, 100000000, 1, 100000000, 1, 100000000, 1000, 2000,
+    1, 100000000, 1, 100000000, 1, 100000000, 1, 3, 0, 100000, 0, 100000, 0, 1,
+];
+
+// The same of a lent card, column by column [01 §4, 9 CARD].
+pub const COLUMN_BOUNDS: [u64; 2 * COLUMNS] = [1, 100000000, 0, 100000, 0, 100000000];
+
+// A number against entry k of such a table.
+pub fn in_bounds(table: &[u64], k: usize, x: u64) -> bool
+    requires { ⌜ 2 * k + 1 < length (now table) ⌝ }
+    ensures { λ r. ⌜ r ≡ inBounds (now (table .entry)) k x ⌝ }
+{
+    if x < table[2 * k] {
+        return false;
+    }
+    x <= table[2 * k + 1]
+}
+
+// What the conditions read of a row: fields 2 to 18, in the list's order [01 §2].
+pub struct Row {
+    pub feeder: u64,
+    pub kind: u64,
+    pub volts: u64,
+    pub work: u64,
+    pub selfstart: u64,
+    pub returnfactor: u64,
+    pub far: u64,
+    pub clear: u64,
+    pub near: u64,
+    pub factor: u64,
+    pub low: u64,
+    pub high: u64,
+    pub step: u64,
+    pub device: u64,
+    pub floor: u64,
+    pub ceiling: u64,
+    pub backed: u64,
+}
+
+pub fn field_at(list: &[u64], i: usize, k: usize) -> u64
+    requires { ⌜ i * fieldCount + k < length (now list) ⌝ }
+    ensures { λ r. ⌜ r ≡ field (now (list .entry)) i k ⌝ }
+{
+    list[i * FIELDS + k]
+}
+
+pub fn row_at(list: &[u64], i: usize) -> Row
+    requires { ⌜ i * fieldCount + fieldCount ≤ length (now list) ⌝ }
+    ensures { λ r. ⌜ r ≡ rowAt (now (list .entry)) i ⌝ }
+{
+    let at = i * FIELDS;
+    Row {
+        feeder: list[at + AT_FEEDER],
+        kind: list[at + AT_KIND],
+        volts: list[at + 3],
+        work: list[at + 4],
+        selfstart: list[at + 5],
+        returnfactor: list[at + 6],
+        far: list[at + 7],
+        clear: list[at + 8],
+        near: list[at + 9],
+        factor: list[at + 10],
+        low: list[at + AT_LOW],
+        high: list[at + AT_HIGH],
+        step: list[at + 13],
+        device: list[at + 14],
+        floor: list[at + 15],
+        ceiling: list[at + 16],
+        backed: list[at + 17],
+    }
+}
+
+// A card row's columns, in the card's order.
+pub struct CardRow {
+    pub pickup: u64,
+    pub delay: u64,
+    pub cutoff: u64,
+}
+
+pub fn column_at(card: &[u64], i: usize, k: usize) -> u64
+    requires { ⌜ i * columnCount + k < length (now card) ⌝ }
+    ensures { λ r. ⌜ r ≡ column (now (card .entry)) i k ⌝ }
+{
+    card[i * COLUMNS + k]
+}
+
+pub fn card_row_at(card: &[u64], i: usize) -> CardRow
+    requires { ⌜ i * columnCount + columnCount ≤ length (now card) ⌝ }
+    ensures { λ k. ⌜ k ≡ cardRowAt (now (card .entry)) i ⌝ }
+{
+    let at = i * COLUMNS;
+    CardRow {
+        pickup: card[at + 0],
+        delay: card[at + 1],
+        cutoff: card[at + 2],
+    }
+}
+
+pub fn put_card_row(card: &mut [u64], i: usize, k: CardRow)
+    requires { ⌜ i * columnCount + columnCount ≤ length (now card) ⌝ }
+    ensures { λ _. ⌜ now (card .exit) ≡ putCardRow (now (card .entry)) i k ⌝ }
+{
+    let columns = [k.pickup, k.delay, k.cutoff];
+    put(card, i * COLUMNS, &columns);
+}
