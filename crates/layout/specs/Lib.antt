@@ -2,3 +2,4 @@ pub mod Card
 pub mod Counts
 pub mod Fields
 pub mod List
+pub mod View

@@ -7,6 +7,7 @@ use Rattle.layout.specs.Counts.{fieldCount}
 use Rattle.layout.specs.declared.Row.{Row}
 use Rattle.layout.specs.Fields.{atLow, atHigh}
 use Rattle.layout.specs.List.{rows, field}
+use Rattle.layout.specs.View.{View}
 use Rattle.rows.specs.Tests.{fieldRight, feedsRight}
 
 -- every field of every row is within its bounds, and low is at most high
@@ -33,3 +34,7 @@ pub record Bounded (r : Row) : Type 0 where
   pub high-to : r .high ≤ 100000000
   pub step-from : 1 ≤ r .step
   pub ceiling-to : r .ceiling ≤ 100000
+
+-- every row of a view is within them
+abbrev pub AllBounded : View → Type 0
+AllBounded v = (j : ℕ) → j < v .count → Bounded (v .row j)

@@ -1,8 +1,7 @@
--- Settling a row by the four numbers gathered from its fed rows is settling it by section 3. Assumes nothing.
+-- Settling a row by the four numbers gathered from its fed rows is settling it by section 3.
 use mathlib.Core.Path.{_≡_, refl, sym, ap, ap₂, _∙_}
 use mathlib.Core.Bool.{Bool, true, false, not, cond, _&&_, _||_, and-false, and-true}
 use mathlib.Core.Logic.{_⊎_, inl, inr, ⊎-elim}
-use mathlib.Core.List.{List}
 use Prim.Native.Nat.{ℕ, _+_, _-_, _*_, _≤_, _<_}
 use native.Mathlib.Nat.{mul-le-mul, mul-le-mul-left, mul-assoc, le-trans}
 use native.Mathlib.Omega.{arith}
@@ -12,21 +11,20 @@ use Rattle.grid.specs.Fold.{maxTo}
 use Rattle.grid.proofs.BoolLaws.{passes-or-fails, implies, implied, same-test}
 use Rattle.grid.proofs.FoldLaws.{Attained, maxTo-attained, le-maxTo, sumTo-zero, sumTo-others, every-at, every-of}
 use Rattle.grid.proofs.GridLaws.{leastOn-same}
-use Rattle.layout.specs.List.{rows, rowAt}
-use Rattle.rows.specs.InRange.{InRange}
-use Rattle.rows.proofs.InRangeLaws.{row-bounded}
+use Rattle.layout.specs.View.{View, Settings}
+use Rattle.rows.specs.InRange.{AllBounded}
 use Rattle.settle.specs.Conditions.{fed, eachFed, loadOf, othersLoad, returnsAfterSelfStart, clearOf, seesOwnZone, backsUp, withinDelays, gradedAbove}
-use Rattle.settle.specs.Fed.{reach, clearance, shortfall, earliest, gathered, clearOfAll, backsUpAll, pickupBy, delayBy, settledBy}
+use Rattle.settle.specs.Fed.{reach, excess, shortfall, earliest, gathered, clearOfAll, backsUpAll, pickupBy, delayBy, settledBy}
 use Rattle.settle.specs.Settle.{meetsPickup, meetsDelay, outcomeOf, settled}
 use Rattle.settle.proofs.PickupLaws.{current-volts}
 
 -- what holds for each fed row
-module _ (l : List ℕ) (i : ℕ) (ok : ℕ → Bool) where
-  pub each-fed-at : eachFed l i ok ≡ true → (j : ℕ) → j < rows l → fed l i j ≡ true → ok j ≡ true
-  each-fed-at e j h g = implies (fed l i j) (ok j) (every-at (λ j. not (fed l i j) || ok j) (rows l) j e h) g
+module _ (v : View) (i : ℕ) (ok : ℕ → Bool) where
+  pub each-fed-at : eachFed v i ok ≡ true → (j : ℕ) → j < v .count → fed v i j ≡ true → ok j ≡ true
+  each-fed-at e j h g = implies (fed v i j) (ok j) (every-at (λ j. not (fed v i j) || ok j) (v .count) j e h) g
 
-  pub each-fed-of : ((j : ℕ) → j < rows l → fed l i j ≡ true → ok j ≡ true) → eachFed l i ok ≡ true
-  each-fed-of h = every-of (λ j. not (fed l i j) || ok j) (rows l) (λ j b. implied (fed l i j) (ok j) (h j b))
+  pub each-fed-of : ((j : ℕ) → j < v .count → fed v i j ≡ true → ok j ≡ true) → eachFed v i ok ≡ true
+  each-fed-of h = every-of (λ j. not (fed v i j) || ok j) (v .count) (λ j b. implied (fed v i j) (ok j) (h j b))
 
 -- a number that counts only for fed rows
 counted-fed : {b : Bool} (x : ℕ) → b ≡ true → cond b x 0 ≡ x
@@ -52,127 +50,127 @@ greatest on f n =
     (passes-or-fails (on (m .at))))
     (maxTo-attained (λ j. cond (on j) (f j) 0) n)
 
-module _ (l : List ℕ) (a : InRange l) (p d : ℕ → ℕ) (i : ℕ) (h : i < rows l) where
-  load-to : (j : ℕ) → j < rows l → loadOf l j ≤ 50000000000000
-  load-to j b = let q = row-bounded l a j b in current-volts (q .work-to) (q .volts-to)
+module _ (v : View) (a : AllBounded v) (k : Settings) (i : ℕ) (h : i < v .count) where
+  load-to : (j : ℕ) → j < v .count → loadOf v j ≤ 50000000000000
+  load-to j b = let q = a j b in current-volts (q .work-to) (q .volts-to)
 
   -- the whole load is a fed row's own and the others'
-  load-others : (j : ℕ) → j < rows l → fed l i j ≡ true → gathered l p d i .load ≡ othersLoad l i j + loadOf l j
+  load-others : (j : ℕ) → j < v .count → fed v i j ≡ true → gathered v k i .load ≡ othersLoad v i j + loadOf v j
   load-others j b g =
-      sumTo-others (λ k. cond (fed l i k) (loadOf l k) 0) (λ k. cond (fed l i k && not (eqb k j)) (loadOf l k) 0) (rows l) j b
-      (rw (eq-eqb j j refl, and-false (fed l i j)))
-      (λ k n. rw (ne-eqb k j n, and-true (fed l i k))) ∙
-      ap (λ (x : ℕ). othersLoad l i j + x) (counted-fed (loadOf l j) g)
+      sumTo-others (λ x. cond (fed v i x) (loadOf v x) 0) (λ x. cond (fed v i x && not (eqb x j)) (loadOf v x) 0) (v .count) j b
+      (rw (eq-eqb j j refl, and-false (fed v i j)))
+      (λ x n. rw (ne-eqb x j n, and-true (fed v i x))) ∙
+      ap (λ (x : ℕ). othersLoad v i j + x) (counted-fed (loadOf v j) g)
 
-  clear-at-most : (j : ℕ) → j < rows l → fed l i j ≡ true → p j * rowAt l j .volts + othersLoad l i j ≤ gathered l p d i .clearance + gathered l p d i .load - reach
+  clear-at-most : (j : ℕ) → j < v .count → fed v i j ≡ true → k j .pickup * v .row j .volts + othersLoad v i j ≤ gathered v k i .excess + gathered v k i .load - reach
   clear-at-most j b g =
-      let m = le-maxTo (λ j. cond (fed l i j) (clearance (rowAt l j) (p j)) 0) (rows l) j b in
-      omega (arith, load-to j b, load-others j b g, counted-fed (clearance (rowAt l j) (p j)) g)
+      let m = le-maxTo (λ j. cond (fed v i j) (excess (v .row j) (k j)) 0) (v .count) j b in
+      omega (arith, load-to j b, load-others j b g, counted-fed (excess (v .row j) (k j)) g)
 
-  -- where no clearance counts, no row is fed
-  no-clearance : gathered l p d i .clearance ≡ 0 → gathered l p d i .load ≡ 0
-  no-clearance z =
-      sumTo-zero (λ j. cond (fed l i j) (loadOf l j) 0) (rows l)
-      (λ j b. ⊎-elim (λ g. absurd (counts j b g)) (λ g. rw g) (passes-or-fails (fed l i j)))
+  -- where no excess counts, no row is fed
+  no-excess : gathered v k i .excess ≡ 0 → gathered v k i .load ≡ 0
+  no-excess z =
+      sumTo-zero (λ j. cond (fed v i j) (loadOf v j) 0) (v .count)
+      (λ j b. ⊎-elim (λ g. absurd (counts j b g)) (λ g. rw g) (passes-or-fails (fed v i j)))
     where
-      counts : (j : ℕ) → j < rows l → fed l i j ≡ true → ⊥
+      counts : (j : ℕ) → j < v .count → fed v i j ≡ true → ⊥
       counts j b g =
           omega (
             arith,
-            le-maxTo (λ j. cond (fed l i j) (clearance (rowAt l j) (p j)) 0) (rows l) j b,
-            counted-fed (clearance (rowAt l j) (p j)) g,
+            le-maxTo (λ j. cond (fed v i j) (excess (v .row j) (k j)) 0) (v .count) j b,
+            counted-fed (excess (v .row j) (k j)) g,
             load-to j b,
           )
 
-  -- P2 for every fed row, and for the greatest clearance
-  clear-each : (I : ℕ) → clearOfAll (rowAt l i) (gathered l p d i) I ≡ true → eachFed l i (λ j. clearOf l p i j I) ≡ true
+  -- P2 for every fed row, and for the greatest excess
+  clear-each : (I : ℕ) → clearOfAll (v .row i) (gathered v k i) I ≡ true → eachFed v i (λ j. clearOf v k i j I) ≡ true
   unfolding clearOfAll clearOf
   clear-each I t =
-      each-fed-of l i (λ j. clearOf l p i j I)
+      each-fed-of v i (λ j. clearOf v k i j I)
       (λ j b g. le-leb _ _ (le-trans (mul-le-mul-left 11 (clear-at-most j b g)) (leb-true _ _ t)))
 
-  clear-greatest : (I : ℕ) → eachFed l i (λ j. clearOf l p i j I) ≡ true → 11 * (gathered l p d i .clearance + gathered l p d i .load - reach) ≤ 10 * I * rowAt l i .volts
+  clear-greatest : (I : ℕ) → eachFed v i (λ j. clearOf v k i j I) ≡ true → 11 * (gathered v k i .excess + gathered v k i .load - reach) ≤ 10 * I * v .row i .volts
   unfolding clearOf
   clear-greatest I t =
       ⊎-elim
-      (λ z. omega (arith, no-clearance z))
+      (λ z. omega (arith, no-excess z))
       (λ m.
-      let c : 11 * (p (m .at) * rowAt l (m .at) .volts + othersLoad l i (m .at)) ≤ 10 * I * rowAt l i .volts =
-      leb-true _ _ (each-fed-at l i (λ j. clearOf l p i j I) t (m .at) (m .below) (m .counts)) in
+      let c : 11 * (k (m .at) .pickup * v .row (m .at) .volts + othersLoad v i (m .at)) ≤ 10 * I * v .row i .volts =
+      leb-true _ _ (each-fed-at v i (λ j. clearOf v k i j I) t (m .at) (m .below) (m .counts)) in
       omega (arith, load-to (m .at) (m .below), load-others (m .at) (m .below) (m .counts), m .is))
-      (greatest (fed l i) (λ j. clearance (rowAt l j) (p j)) (rows l))
+      (greatest (fed v i) (λ j. excess (v .row j) (k j)) (v .count))
 
-  pub clear-of-all : (I : ℕ) → clearOfAll (rowAt l i) (gathered l p d i) I ≡ eachFed l i (λ j. clearOf l p i j I)
+  pub clear-of-all : (I : ℕ) → clearOfAll (v .row i) (gathered v k i) I ≡ eachFed v i (λ j. clearOf v k i j I)
   clear-of-all I = same-test _ _ (clear-each I) (λ t. unfold clearOfAll in le-leb _ _ (clear-greatest I t))
 
   -- P4 for every fed row that is backed, and for the greatest shortfall
-  far-to : (j : ℕ) → j < rows l → rowAt l j .far * rowAt l j .volts ≤ 50000000000000
-  far-to j b = let q = row-bounded l a j b in current-volts (q .far-to) (q .volts-to)
+  far-to : (j : ℕ) → j < v .count → v .row j .far * v .row j .volts ≤ 50000000000000
+  far-to j b = let q = a j b in current-volts (q .far-to) (q .volts-to)
 
-  backs-each : (I : ℕ) → backsUpAll (rowAt l i) (gathered l p d i) I ≡ true → eachFed l i (λ j. backsUp (rowAt l i) (rowAt l j) I) ≡ true
+  backs-each : (I : ℕ) → backsUpAll (v .row i) (gathered v k i) I ≡ true → eachFed v i (λ j. backsUp (v .row i) (v .row j) I) ≡ true
   unfolding backsUpAll backsUp
   backs-each I t =
-      each-fed-of l i (λ j. backsUp (rowAt l i) (rowAt l j) I)
+      each-fed-of v i (λ j. backsUp (v .row i) (v .row j) I)
       (λ j b g.
-      implied (eqb (rowAt l j .backed) 1) (leb (12 * I * rowAt l i .volts) (10 * rowAt l j .far * rowAt l j .volts))
-      (λ k.
-      let m = le-maxTo (λ j. cond (fed l i j) (shortfall (rowAt l j)) 0) (rows l) j b in
-      let s : shortfall (rowAt l j) ≡ reach - rowAt l j .far * rowAt l j .volts = rw k in
-      let c : 12 * I * rowAt l i .volts ≤ 10 * (reach - gathered l p d i .shortfall) = leb-true _ _ t in
-      le-leb (12 * I * rowAt l i .volts) (10 * rowAt l j .far * rowAt l j .volts)
-      (omega (arith, mul-assoc 10 (rowAt l j .far) (rowAt l j .volts), far-to j b, counted-fed (shortfall (rowAt l j)) g))))
+      implied (eqb (v .row j .backed) 1) (leb (12 * I * v .row i .volts) (10 * v .row j .far * v .row j .volts))
+      (λ backed.
+      let m = le-maxTo (λ j. cond (fed v i j) (shortfall (v .row j)) 0) (v .count) j b in
+      let s : shortfall (v .row j) ≡ reach - v .row j .far * v .row j .volts = rw backed in
+      let c : 12 * I * v .row i .volts ≤ 10 * (reach - gathered v k i .shortfall) = leb-true _ _ t in
+      le-leb (12 * I * v .row i .volts) (10 * v .row j .far * v .row j .volts)
+      (omega (arith, mul-assoc 10 (v .row j .far) (v .row j .volts), far-to j b, counted-fed (shortfall (v .row j)) g))))
 
-  backs-greatest : (I : ℕ) → I ≤ 100000000 → eachFed l i (λ j. backsUp (rowAt l i) (rowAt l j) I) ≡ true → 12 * I * rowAt l i .volts ≤ 10 * (reach - gathered l p d i .shortfall)
+  backs-greatest : (I : ℕ) → I ≤ 100000000 → eachFed v i (λ j. backsUp (v .row i) (v .row j) I) ≡ true → 12 * I * v .row i .volts ≤ 10 * (reach - gathered v k i .shortfall)
   unfolding backsUp
   backs-greatest I b t =
-      let most : 12 * I * rowAt l i .volts ≤ 600000000000000 = mul-le-mul (mul-le-mul-left 12 b) (row-bounded l a i h .volts-to) in
+      let most : 12 * I * v .row i .volts ≤ 600000000000000 = mul-le-mul (mul-le-mul-left 12 b) (a i h .volts-to) in
       ⊎-elim
       (λ z. omega arith)
       (λ m.
       ⊎-elim
-      (λ (k : eqb (rowAt l (m .at) .backed) 1 ≡ true).
-      let c : 12 * I * rowAt l i .volts ≤ 10 * rowAt l (m .at) .far * rowAt l (m .at) .volts =
-      leb-true _ _ (implies _ _ (each-fed-at l i (λ j. backsUp (rowAt l i) (rowAt l j) I) t (m .at) (m .below) (m .counts)) k) in
-      let s : shortfall (rowAt l (m .at)) ≡ reach - rowAt l (m .at) .far * rowAt l (m .at) .volts = rw k in
-      omega (arith, mul-assoc 10 (rowAt l (m .at) .far) (rowAt l (m .at) .volts), m .is, far-to (m .at) (m .below)))
-      (λ (k : eqb (rowAt l (m .at) .backed) 1 ≡ false).
-      let s : shortfall (rowAt l (m .at)) ≡ 0 = rw k in
+      (λ (backed : eqb (v .row (m .at) .backed) 1 ≡ true).
+      let c : 12 * I * v .row i .volts ≤ 10 * v .row (m .at) .far * v .row (m .at) .volts =
+      leb-true _ _ (implies _ _ (each-fed-at v i (λ j. backsUp (v .row i) (v .row j) I) t (m .at) (m .below) (m .counts)) backed) in
+      let s : shortfall (v .row (m .at)) ≡ reach - v .row (m .at) .far * v .row (m .at) .volts = rw backed in
+      omega (arith, mul-assoc 10 (v .row (m .at) .far) (v .row (m .at) .volts), m .is, far-to (m .at) (m .below)))
+      (λ (backed : eqb (v .row (m .at) .backed) 1 ≡ false).
+      let s : shortfall (v .row (m .at)) ≡ 0 = rw backed in
       omega (arith, m .is))
-      (passes-or-fails (eqb (rowAt l (m .at) .backed) 1)))
-      (greatest (fed l i) (λ j. shortfall (rowAt l j)) (rows l))
+      (passes-or-fails (eqb (v .row (m .at) .backed) 1)))
+      (greatest (fed v i) (λ j. shortfall (v .row j)) (v .count))
 
-  pub backs-all : (I : ℕ) → I ≤ 100000000 → backsUpAll (rowAt l i) (gathered l p d i) I ≡ eachFed l i (λ j. backsUp (rowAt l i) (rowAt l j) I)
+  pub backs-all : (I : ℕ) → I ≤ 100000000 → backsUpAll (v .row i) (gathered v k i) I ≡ eachFed v i (λ j. backsUp (v .row i) (v .row j) I)
   backs-all I b = same-test _ _ (backs-each I) (λ t. unfold backsUpAll in le-leb _ _ (backs-greatest I b t))
 
   -- D2 for every fed row, and for the greatest earliest delay
-  pub graded-all : (t : ℕ) → leb (gathered l p d i .earliest) t ≡ eachFed l i (λ j. gradedAbove (rowAt l j) (d j) t)
+  pub graded-all : (t : ℕ) → leb (gathered v k i .earliest) t ≡ eachFed v i (λ j. gradedAbove (v .row j) (k j) t)
   unfolding gradedAbove
   graded-all t =
       same-test _ _
       (λ e.
-      each-fed-of l i (λ j. gradedAbove (rowAt l j) (d j) t)
+      each-fed-of v i (λ j. gradedAbove (v .row j) (k j) t)
       (λ j b g.
-      le-leb (earliest (rowAt l j) (d j)) t
-      (omega (arith, leb-true (gathered l p d i .earliest) t e, le-maxTo (λ j. cond (fed l i j) (earliest (rowAt l j) (d j)) 0) (rows l) j b, counted-fed (earliest (rowAt l j) (d j)) g))))
+      le-leb (earliest (v .row j) (k j)) t
+      (omega (arith, leb-true (gathered v k i .earliest) t e, le-maxTo (λ j. cond (fed v i j) (earliest (v .row j) (k j)) 0) (v .count) j b, counted-fed (earliest (v .row j) (k j)) g))))
       (λ e.
-      le-leb (gathered l p d i .earliest) t
+      le-leb (gathered v k i .earliest) t
       (⊎-elim
       (λ z. omega arith)
       (λ m.
-      let c : earliest (rowAt l (m .at)) (d (m .at)) ≤ t = leb-true _ _ (each-fed-at l i (λ j. gradedAbove (rowAt l j) (d j) t) e (m .at) (m .below) (m .counts)) in
+      let c : earliest (v .row (m .at)) (k (m .at)) ≤ t = leb-true _ _ (each-fed-at v i (λ j. gradedAbove (v .row j) (k j) t) e (m .at) (m .below) (m .counts)) in
       omega (arith, m .is))
-      (greatest (fed l i) (λ j. earliest (rowAt l j) (d j)) (rows l))))
+      (greatest (fed v i) (λ j. earliest (v .row j) (k j)) (v .count))))
 
   -- a row settled by the four numbers is settled by section 3
-  pub settled-by : settledBy (rowAt l i) (gathered l p d i) ≡ settled l p d i
+  pub settled-by : settledBy (v .row i) (gathered v k i) ≡ settled v k i
   unfolding settledBy settled pickupBy meetsPickup delayBy meetsDelay
   settled-by =
-      let r = row-bounded l a i h in
-      ap₂ (outcomeOf (rowAt l i))
-      (leastOn-same _ _ _ (r .step-from) (pickupBy (rowAt l i) (gathered l p d i)) (meetsPickup l p i)
-      (λ I v.
+      let r = a i h in
+      ap₂ (outcomeOf (v .row i))
+      (leastOn-same _ _ _ (r .step-from) (pickupBy (v .row i) (gathered v k i)) (meetsPickup v k i)
+      (λ I g.
       ap₂ _&&_
-      (ap (λ (b : Bool). returnsAfterSelfStart (rowAt l i) I && b) (clear-of-all I))
-      (ap (λ (b : Bool). seesOwnZone (rowAt l i) I && b) (backs-all I (le-trans (v .within) (r .high-to))))))
-      (leastOn-same _ _ 1 (omega arith) (delayBy (rowAt l i) (gathered l p d i)) (meetsDelay l d i)
-      (λ t v. ap (λ (b : Bool). withinDelays (rowAt l i) t && b) (graded-all t)))
+      (ap (λ (b : Bool). returnsAfterSelfStart (v .row i) I && b) (clear-of-all I))
+      (ap (λ (b : Bool). seesOwnZone (v .row i) I && b) (backs-all I (le-trans (g .within) (r .high-to))))))
+      (leastOn-same _ _ 1 (omega arith) (delayBy (v .row i) (gathered v k i)) (meetsDelay v k i)
+      (λ t g. ap (λ (b : Bool). withinDelays (v .row i) t && b) (graded-all t)))

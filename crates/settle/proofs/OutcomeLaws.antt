@@ -1,4 +1,4 @@
--- The cutoff and a row's outcome, one law for each way that they end. Assumes nothing.
+-- The cutoff and a row's outcome, one law for each way that they end.
 use mathlib.Core.Path.{_≡_, refl, sym, ap, _∙_}
 use mathlib.Core.Bool.{Bool, true, false, cond}
 use Prim.Native.Nat.{ℕ, _*_, _≤_}
@@ -19,8 +19,8 @@ use Rattle.settle.specs.declared.Fed.{Fed}
 use Rattle.settle.specs.declared.Outcome.{Outcome}
 use Rattle.settle.specs.declared.Settled.the-variants.{Set, NoPickup, NoDelay}
 use Rattle.settle.specs.Conditions.{staysClear, seesNear, margin}
-use Rattle.settle.specs.Fed.{pickupBy, delayBy, settledBy}
-use Rattle.settle.specs.Settle.{leastPickup, leastDelay, fitting, cutoffOf, outcomeOf}
+use Rattle.settle.specs.Fed.{pickupBy, delayBy, settledBy, CardBounded}
+use Rattle.settle.specs.Settle.{leastPickup, leastDelay, fitting, cutoffOf, shown, outcomeOf}
 
 pub margin-1 : (d : ℕ) → d ≡ 1 → 300 ≡ margin d
 unfolding margin
@@ -119,14 +119,15 @@ module _ (r : Row) where
 
   -- the settings that are found are at most what their columns hold
   pub outcome-bounded :
-      (okp okd : ℕ → Bool) (o : Outcome) → Bounded r → outcomeOf r (leastPickup r okp) (leastDelay r okd) ≡ Set o →
-      (o .pickup ≤ 100000000) × (o .delay ≤ 100000)
+      (okp okd : ℕ → Bool) (o : Outcome) → Bounded r → outcomeOf r (leastPickup r okp) (leastDelay r okd) ≡ Set o → CardBounded (shown o)
+  unfolding shown
   outcome-bounded okp okd o a e =
-      let q = outcome-set (leastPickup r okp) (leastDelay r okd) o e in (
-        le-trans (leastOn-least _ _ _ (a .step-from) okp _ (q .pickup-found) .available .within) (a .high-to),
-        le-trans (leastOn-least _ _ 1 (omega arith) okd _ (q .delay-found) .available .within) (a .ceiling-to),
-      )
+      let q = outcome-set (leastPickup r okp) (leastDelay r okd) o e in
+      record {
+        pickup-to = le-trans (leastOn-least _ _ _ (a .step-from) okp _ (q .pickup-found) .available .within) (a .high-to);
+        delay-to = le-trans (leastOn-least _ _ 1 (omega arith) okd _ (q .delay-found) .available .within) (a .ceiling-to);
+      }
 
-  pub set-bounded : (f : Fed) (o : Outcome) → Bounded r → Set o ≡ settledBy r f → (o .pickup ≤ 100000000) × (o .delay ≤ 100000)
+  pub set-bounded : (f : Fed) (o : Outcome) → Bounded r → Set o ≡ settledBy r f → CardBounded (shown o)
   unfolding settledBy
   set-bounded f o a e = outcome-bounded (pickupBy r f) (delayBy r f) o a (sym e)

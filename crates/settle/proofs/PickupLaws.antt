@@ -1,5 +1,4 @@
 -- A pickup and a delay judged by the four numbers: lower bounds rounded up, upper tests, and the least value between.
--- Assumes nothing.
 use mathlib.Core.Path.{_≡_, sym, ap, ap₂, _∙_}
 use mathlib.Core.Bool.{Bool, true, false, not, cond, _&&_, _||_}
 use Prim.Native.Nat.{ℕ, _+_, _-_, _*_, _≤_, _<_, max}
@@ -32,14 +31,14 @@ module _ (r : Row) (f : Fed) (a : Bounded r) where
   -- the greater of the two bounds rounded up says P1 and P2
   pub pickup-bound :
       (b₁ b₂ : ℕ) → b₁ ≡ ceilDiv (11 * r .selfstart * r .work) (10 * r .returnfactor) →
-      b₂ ≡ ceilDiv (11 * (f .clearance + f .load - reach)) (10 * r .volts) →
+      b₂ ≡ ceilDiv (11 * (f .excess + f .load - reach)) (10 * r .volts) →
       (x : ℕ) → leb (max b₁ b₂) x ≡ (returnsAfterSelfStart r x && clearOfAll r f x)
   unfolding returnsAfterSelfStart clearOfAll
   pickup-bound b₁ b₂ e₁ e₂ x =
       max-leb b₁ b₂ x ∙
       ap₂ _&&_
       (ap (λ (b : ℕ). leb b x) e₁ ∙ ceilDiv-leb _ _ x (omega (arith, a .return-from)) ∙ ap (leb (11 * r .selfstart * r .work)) (regroup x (r .returnfactor)))
-      (ap (λ (b : ℕ). leb b x) e₂ ∙ ceilDiv-leb _ _ x (omega (arith, a .volts-from)) ∙ ap (leb (11 * (f .clearance + f .load - reach))) (regroup x (r .volts)))
+      (ap (λ (b : ℕ). leb b x) e₂ ∙ ceilDiv-leb _ _ x (omega (arith, a .volts-from)) ∙ ap (leb (11 * (f .excess + f .load - reach))) (regroup x (r .volts)))
 
   -- P3 and P4
   abbrev pub upper : ℕ → Bool

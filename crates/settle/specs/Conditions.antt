@@ -1,42 +1,42 @@
 -- [01 §3] The conditions, each against its line of the section. Source document 000 departs from P2: it names only the
 -- fed row of greatest pickup; section 3 asks it of every fed row. Definitions only.
--- l is the list, i and j are rows counted from 0, r and f are rows by their fields: r the row itself, f one that it feeds.
--- I is a pickup and t a delay of the row itself; p and d give the pickup and the delay of each row of the list.
+-- v is a view of the list, i and j are rows counted from 0, r and f are rows by their fields: r the row itself, f one that it
+-- feeds. I is a pickup and t a delay of the row itself; k gives the settings of each row, and s those of the fed row f.
 use mathlib.Core.Bool.{Bool, not, cond, _&&_, _||_}
-use mathlib.Core.List.{List}
 use Prim.Native.Nat.{ℕ, _+_, _*_}
 use lib.Dec.{leb, eqb}
 use Rattle.grid.specs.Fold.{sumTo, every}
+use Rattle.layout.specs.declared.CardRow.{CardRow}
 use Rattle.layout.specs.declared.Row.{Row}
-use Rattle.layout.specs.List.{rows, rowAt}
+use Rattle.layout.specs.View.{View, Settings}
 
 -- a ≥ b
 abbrev pub atLeast : ℕ → ℕ → Bool
 atLeast a b = leb b a
 
 -- row i feeds row j
-abbrev pub fed : List ℕ → ℕ → ℕ → Bool
-fed l i j = eqb (rowAt l j .feeder) (i + 1)
+abbrev pub fed : View → ℕ → ℕ → Bool
+fed v i j = eqb (v .row j .feeder) (i + 1)
 
 -- for each row that row i feeds
-abbrev pub eachFed : List ℕ → ℕ → (ℕ → Bool) → Bool
-eachFed l i ok = every (rows l) (λ j. not (fed l i j) || ok j)
+abbrev pub eachFed : View → ℕ → (ℕ → Bool) → Bool
+eachFed v i ok = every (v .count) (λ j. not (fed v i j) || ok j)
 
 -- a row's greatest load: work × volts
-abbrev pub loadOf : List ℕ → ℕ → ℕ
-loadOf l j = rowAt l j .work * rowAt l j .volts
+abbrev pub loadOf : View → ℕ → ℕ
+loadOf v j = v .row j .work * v .row j .volts
 
 -- the sum of the loads of the rows that row i feeds, other than j
-abbrev pub othersLoad : List ℕ → ℕ → ℕ → ℕ
-othersLoad l i j = sumTo (rows l) (λ k. cond (fed l i k && not (eqb k j)) (loadOf l k) 0)
+abbrev pub othersLoad : View → ℕ → ℕ → ℕ
+othersLoad v i j = sumTo (v .count) (λ k. cond (fed v i k && not (eqb k j)) (loadOf v k) 0)
 
 -- P1, return after self-start: 10 × I × return ≥ 11 × selfstart × work
 unfoldable pub returnsAfterSelfStart : Row → ℕ → Bool
 returnsAfterSelfStart r I = atLeast (10 * I * r .returnfactor) (11 * r .selfstart * r .work)
 
 -- P2, for a fed row j: 10 × I × U ≥ 11 × (pickup of j × volts of j + the sum, over the other fed rows, of work × volts)
-unfoldable pub clearOf : List ℕ → (ℕ → ℕ) → ℕ → ℕ → ℕ → Bool
-clearOf l p i j I = atLeast (10 * I * rowAt l i .volts) (11 * (p j * rowAt l j .volts + othersLoad l i j))
+unfoldable pub clearOf : View → Settings → ℕ → ℕ → ℕ → Bool
+clearOf v k i j I = atLeast (10 * I * v .row i .volts) (11 * (k j .pickup * v .row j .volts + othersLoad v i j))
 
 -- P3, own zone: 10 × far ≥ 15 × I
 unfoldable pub seesOwnZone : Row → ℕ → Bool
@@ -54,9 +54,9 @@ withinDelays r t = atLeast t (r .floor) && (atLeast (r .ceiling) t && (not (eqb 
 unfoldable pub margin : ℕ → ℕ
 margin device = cond (eqb device 1) 300 (cond (eqb device 2) 500 200)
 
--- D2, for a fed row f with delay s: the delay is at least s plus the step for the FED row's device
-unfoldable pub gradedAbove : Row → ℕ → ℕ → Bool
-gradedAbove f s t = atLeast t (s + margin (f .device))
+-- D2, for a fed row f with settings s: the delay is at least its delay plus the step for the FED row's device
+unfoldable pub gradedAbove : Row → CardRow → ℕ → Bool
+gradedAbove f s t = atLeast t (s .delay + margin (f .device))
 
 -- cutoff, the bound on its pickup C: 1,000 × C ≥ factor × clear
 unfoldable pub staysClear : Row → ℕ → Bool

@@ -1,27 +1,28 @@
--- [01 §3, §4] The least settings of one row, the rows below at the settings p and d. Definitions only.
+-- [01 §3, §4] The least settings of one row, the rows below at the settings k. Definitions only.
 use mathlib.Core.Bool.{Bool, cond, _&&_}
-use mathlib.Core.List.{List}
 use Prim.Native.Nat.{ℕ}
 use Rattle.grid.specs.declared.Found.{Found}
 use Rattle.grid.specs.declared.Found.the-variants.{At, Nothing}
 use Rattle.grid.specs.Grid.{leastOn}
+use Rattle.layout.specs.declared.CardRow.{CardRow}
 use Rattle.layout.specs.declared.Row.{Row}
-use Rattle.layout.specs.List.{rowAt}
+use Rattle.layout.specs.View.{View, Settings}
 use Rattle.settle.specs.declared.Cutoff.{Cutoff}
 use Rattle.settle.specs.declared.Cutoff.the-variants.{Fitted, NotFitted}
+use Rattle.settle.specs.declared.Outcome.{Outcome}
 use Rattle.settle.specs.declared.Settled.{Settled}
 use Rattle.settle.specs.declared.Settled.the-variants.{Set, NoPickup, NoDelay}
 use Rattle.settle.specs.Conditions.{eachFed, returnsAfterSelfStart, clearOf, seesOwnZone, backsUp, withinDelays, gradedAbove, staysClear, seesNear}
 
 -- pickup I of row i meets P1 to P4
-unfoldable pub meetsPickup : List ℕ → (ℕ → ℕ) → ℕ → ℕ → Bool
-meetsPickup l p i I =
-    (returnsAfterSelfStart (rowAt l i) I && eachFed l i (λ j. clearOf l p i j I)) &&
-    (seesOwnZone (rowAt l i) I && eachFed l i (λ j. backsUp (rowAt l i) (rowAt l j) I))
+unfoldable pub meetsPickup : View → Settings → ℕ → ℕ → Bool
+meetsPickup v k i I =
+    (returnsAfterSelfStart (v .row i) I && eachFed v i (λ j. clearOf v k i j I)) &&
+    (seesOwnZone (v .row i) I && eachFed v i (λ j. backsUp (v .row i) (v .row j) I))
 
 -- delay t of row i meets D1 and D2
-unfoldable pub meetsDelay : List ℕ → (ℕ → ℕ) → ℕ → ℕ → Bool
-meetsDelay l d i t = withinDelays (rowAt l i) t && eachFed l i (λ j. gradedAbove (rowAt l j) (d j) t)
+unfoldable pub meetsDelay : View → Settings → ℕ → ℕ → Bool
+meetsDelay v k i t = withinDelays (v .row i) t && eachFed v i (λ j. gradedAbove (v .row j) (k j) t)
 
 -- the least available pickup that passes
 abbrev pub leastPickup : Row → (ℕ → Bool) → Found
@@ -44,6 +45,10 @@ unfoldable pub printed : Cutoff → ℕ
 printed (Fitted C) = C
 printed NotFitted = 0
 
+-- the card row that shows an outcome
+unfoldable pub shown : Outcome → CardRow
+shown o = record { pickup = o .pickup; delay = o .delay; cutoff = printed (o .cutoff) }
+
 -- a row's outcome, PICKUP before DELAY
 unfoldable pub outcomeOf : Row → Found → Found → Settled
 outcomeOf r Nothing delay = NoPickup
@@ -51,6 +56,6 @@ outcomeOf r (At I) Nothing = NoDelay
 outcomeOf r (At I) (At t) = Set (record { pickup = I; delay = t; cutoff = cutoffOf r })
 
 -- the least settings of row i
-unfoldable pub settled : List ℕ → (ℕ → ℕ) → (ℕ → ℕ) → ℕ → Settled
-settled l p d i =
-    outcomeOf (rowAt l i) (leastPickup (rowAt l i) (meetsPickup l p i)) (leastDelay (rowAt l i) (meetsDelay l d i))
+unfoldable pub settled : View → Settings → ℕ → Settled
+settled v k i =
+    outcomeOf (v .row i) (leastPickup (v .row i) (meetsPickup v k i)) (leastDelay (v .row i) (meetsDelay v k i))

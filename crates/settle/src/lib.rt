@@ -3,6 +3,7 @@ use grid::Found;
 use grid::ceil_div;
 use grid::greater;
 use grid::least_on;
+use layout::CardRow;
 use layout::Row;
 ghost use mathlib.Core.Path.{_≡_};
 ghost use mathlib.Core.Bool.{_&&_};
@@ -10,8 +11,8 @@ ghost use Prim.Native.Nat.{ℕ, _-_, _≤_};
 ghost use lib.Dec.{leb};
 ghost use Rattle.rows.specs.InRange.{Bounded};
 ghost use Rattle.settle.specs.Conditions.{returnsAfterSelfStart, seesOwnZone, seesNear, margin};
-ghost use Rattle.settle.specs.Fed.{clearOfAll, backsUpAll, pickupBy, delayBy, settledBy, shortfall, asked, FedBounded};
-ghost use Rattle.settle.specs.Settle.{leastPickup, leastDelay, cutoffOf, printed};
+ghost use Rattle.settle.specs.Fed.{clearOfAll, backsUpAll, pickupBy, delayBy, settledBy, shortfall, asked, FedBounded, CardBounded};
+ghost use Rattle.settle.specs.Settle.{leastPickup, leastDelay, cutoffOf, printed, shown};
 
 // The cutoff is fitted at a stated pickup or not fitted [01 §3].
 pub enum Cutoff {
@@ -32,16 +33,16 @@ pub enum Settled {
     NoDelay,
 }
 
-// What the rows that a row feeds ask of it: the sum of their loads, and over them the greatest clearance,
-// shortfall of backup and earliest delay.
+// What the rows that a row feeds ask of it: the sum of their loads, and over them the greatest excess of a pickup over its
+// own load, shortfall of backup and earliest delay.
 pub struct Fed {
     pub load: u64,
-    pub clearance: u64,
+    pub excess: u64,
     pub shortfall: u64,
     pub earliest: u64,
 }
 
-// Above every product of a current and volts.
+// 1.2 times the greatest product of a current and volts.
 pub const REACH: u64 = 60000000000000;
 
 fn over(a: u64, b: u64) -> u64
@@ -56,7 +57,7 @@ fn pickup_from(r: Row, f: Fed) -> u64
     ensures { λ b. ⌜ ((x : ℕ) → leb b x ≡ (returnsAfterSelfStart r x && clearOfAll r f x)) ⌝ }
 {
     let returns = ceil_div(11 * r.selfstart * r.work, 10 * r.returnfactor);
-    let asked = over(f.clearance + f.load, REACH);
+    let asked = over(f.excess + f.load, REACH);
     let clears = ceil_div(11 * asked, 10 * r.volts);
     greater(returns, clears)
 }
@@ -132,12 +133,24 @@ pub fn settle(r: Row, f: Fed) -> Settled
 }
 
 // The number that the card shows for a cutoff.
-pub fn printed_cutoff(c: Cutoff) -> u64
+fn printed_cutoff(c: Cutoff) -> u64
     ensures { λ r. ⌜ r ≡ printed c ⌝ }
 {
     match c {
         Cutoff::Fitted(x) => x,
         Cutoff::NotFitted => 0,
+    }
+}
+
+// The card row that shows an outcome.
+pub fn card_row(o: Outcome) -> CardRow
+    ensures { λ k. ⌜ k ≡ shown o ⌝ }
+{
+    let cutoff = o.cutoff;
+    CardRow {
+        pickup: o.pickup,
+        delay: o.delay,
+        cutoff: printed_cutoff(cutoff),
     }
 }
 
@@ -163,16 +176,18 @@ fn shortfall_of(r: Row) -> u64
 }
 
 // What a settled row asks of the row that feeds it.
-pub fn asks(r: Row, pickup: u64, delay: u64) -> Fed
-    requires { ⌜ Bounded r × (pickup ≤ 100000000) × (delay ≤ 100000) ⌝ }
-    ensures { λ f. ⌜ f ≡ asked r pickup delay ⌝ }
+pub fn asks(r: Row, s: CardRow) -> Fed
+    requires { ⌜ Bounded r × CardBounded s ⌝ }
+    ensures { λ f. ⌜ f ≡ asked r s ⌝ }
 {
     let load = r.work * r.volts;
+    let excess = s.pickup * r.volts + (REACH - load);
     let shortfall = shortfall_of(r);
+    let earliest = s.delay + margin_of(r.device);
     Fed {
         load,
-        clearance: pickup * r.volts + (REACH - load),
+        excess,
         shortfall,
-        earliest: delay + margin_of(r.device),
+        earliest,
     }
 }

@@ -1,5 +1,4 @@
 -- `settle::pickup_from` meets its contract: a bound rounded up says the same of whole pickups as the inequality multiplied out.
--- Assumes nothing.
 use borrow.Author.Needs.{needs}
 use native.Mathlib.Nat.{lt-of-le-of-lt, mul-le-mul, mul-le-mul-left}
 use lib.Dec.{lit<}
