@@ -7,7 +7,7 @@ use lib.ListN.{replicate}
 use Rattle.layout.specs.Counts.{columnCount}
 use Rattle.answers.specs.declared.Answer.{Answer}
 use Rattle.answers.specs.declared.Answer.the-variants.{Edit}
-use Rattle.answers.specs.Answer.{givenBy}
+use Rattle.answers.specs.Answer.{givenBy, numberOf}
 use Rattle.layout.specs.List.{rows}
 use Rattle.whole.specs.Whole.{whole}
 use Rattle.edit.specs.Edit.{putList, editRight}
@@ -47,7 +47,7 @@ calculated l = whole l (replicate (rows l * columnCount) 0) .answer
 
 -- number 0: the ledger holds the list made; any other: it keeps its own
 unfoldable pub kept : List ℕ → List ℕ → Answer → Entry
-kept l l′ a = record { answer = a; list = cond (eqb (givenBy a .number) 0) l′ l }
+kept l l′ a = record { answer = a; list = cond (eqb (numberOf a) 0) l′ l }
 
 -- where EDIT applies, Edit; otherwise the whole calculation of the list with the new row in
 unfoldable pub entered : List ℕ → ℕ → List ℕ → Entry
@@ -66,4 +66,4 @@ ledger l (q ∷ qs) =
 unfoldable pub putDone : List ℕ → List Answer → List Request → List ℕ
 putDone l [] qs = l
 putDone l (a ∷ answers) [] = l
-putDone l (a ∷ answers) (q ∷ qs) = putDone (cond (eqb (givenBy a .number) 0) (putList l (q .place - 1) (q .row)) l) answers qs
+putDone l (a ∷ answers) (q ∷ qs) = putDone (cond (eqb (numberOf a) 0) (putList l (q .place - 1) (q .row)) l) answers qs

@@ -21,7 +21,7 @@ use Rattle.rows.specs.InRange.{InRange, Feeds}
 use Rattle.rows.proofs.InRangeLaws.{feeder-above, feeder-of-last}
 use Rattle.settle.specs.declared.Outcome.{Outcome}
 use Rattle.settle.specs.declared.Settled.{Settled}
-use Rattle.settle.specs.declared.Settled.the-variants.{Set, NoPickup, NoDelay}
+use Rattle.settle.specs.declared.Settled.the-variants.{Set, Unset}
 use Rattle.settle.specs.Conditions.{fed, loadOf}
 use Rattle.settle.specs.Fed.{clearance, shortfall, earliest, gathered, settledBy}
 use Rattle.settle.specs.Settle.{settled}
@@ -143,8 +143,7 @@ module _ (l : List ℕ) (a : InRange l) (b : Feeds l) where
           ((o : Outcome) → workOut l (upFrom (suc i) m) (putRow c′ i o) ≡ framed (rows l * columnCount) (putRow c′ i o) (workOut l (upFrom (suc i) m) (putRow c i o))) →
           onSettled i s (λ o. workOut l (upFrom (suc i) m) (putRow c′ i o)) ≡ framed (rows l * columnCount) c′ (onSettled i s (λ o. workOut l (upFrom (suc i) m) (putRow c i o)))
       by-cases (Set o) ih = ih o ∙ framed-drop (rows l * columnCount) (putRow c′ i o) c′ (workOut l (upFrom (suc i) m) (putRow c i o)) (putRow-drop c′ i o (rows l * columnCount) (omega arith))
-      by-cases NoPickup ih = refl
-      by-cases NoDelay ih = refl
+      by-cases (Unset why) ih = refl
 
   -- the calculation on one card gives that on any other
   pub calculation-frame : (c c′ : List ℕ) → rows l * columnCount ≤ length c → rows l * columnCount ≤ length c′ → calculation l c′ ≡ framed (rows l * columnCount) c′ (calculation l c)
@@ -174,8 +173,7 @@ module _ (l : List ℕ) where
             same-length = k .same-length ∙ putRow-length c i o;
             past-rows = k .past-rows ∙ putRow-drop c i o (rows l * columnCount) (omega arith);
           }
-      by-cases NoPickup e ih = absurd (let z : _≡_ {A = ℕ} 0 1 = cc in omega arith)
-      by-cases NoDelay e ih = absurd (let z : _≡_ {A = ℕ} 0 1 = cc in omega arith)
+      by-cases (Unset why) e ih = absurd (let z : _≡_ {A = ℕ} 0 1 = cc in omega arith)
 
   pub calculation-keeps : (c c′ : List ℕ) → calculation l c ≡ finished c′ → Kept (rows l * columnCount) c c′
   unfolding calculation

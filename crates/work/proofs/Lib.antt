@@ -1,3 +1,3 @@
-pub mod CardLaws
 pub mod StepLaws
+pub mod SumsLaws
 pub mod WorkingLaws

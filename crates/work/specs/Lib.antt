@@ -1,4 +1,3 @@
-pub mod Card
 pub mod Ready
 pub mod Sums
 pub mod WorkOut

@@ -1,14 +1,15 @@
--- [01 §4] Rows worked out one after the other on a card: each at its least settings, the rows below as the card has them;
--- in a row PICKUP comes before DELAY. Definitions only.
+-- [01 §4] Rows worked out one after the other on a card: each at its least settings, the rows below as the card has them,
+-- or refused for its own reason. Definitions only.
 use mathlib.Core.List.{List, [], _∷_}
 use Prim.Native.Nat.{ℕ, zero, suc, _+_}
 use Rattle.answers.specs.declared.Answer.{Answer}
-use Rattle.answers.specs.declared.Answer.the-variants.{Pickup, Delay}
-use Rattle.settle.specs.declared.Outcome.{Outcome}
+use Rattle.answers.specs.declared.Answer.the-variants.{Unsettled}
+use Rattle.layout.specs.declared.CardRow.{CardRow}
+use Rattle.layout.specs.Card.{cardRowAt, putCardRow}
+use Rattle.layout.specs.View.{viewOf}
 use Rattle.settle.specs.declared.Settled.{Settled}
-use Rattle.settle.specs.declared.Settled.the-variants.{Set, NoPickup, NoDelay}
-use Rattle.settle.specs.Settle.{settled}
-use Rattle.work.specs.Card.{pickupIn, delayIn, putRow}
+use Rattle.settle.specs.declared.Settled.the-variants.{Set, Unset}
+use Rattle.settle.specs.Settle.{shown, settled}
 
 -- how working out ends: with the card, or with a refusal
 pub data Worked : Type 0 where
@@ -16,15 +17,14 @@ pub data Worked : Type 0 where
   refused : Answer → Worked
 
 -- what follows the outcome of row i
-unfoldable pub onSettled : ℕ → Settled → (Outcome → Worked) → Worked
-onSettled i (Set o) next = next o
-onSettled i NoPickup next = refused (Pickup (i + 1))
-onSettled i NoDelay next = refused (Delay (i + 1))
+unfoldable pub onSettled : ℕ → Settled → (CardRow → Worked) → Worked
+onSettled i (Set o) next = next (shown o)
+onSettled i (Unset why) next = refused (Unsettled (i + 1) why)
 
 -- the rows of `is` worked out in their order, for the list l on the card c
 unfoldable pub workOut : List ℕ → List ℕ → List ℕ → Worked
 workOut l [] c = finished c
-workOut l (i ∷ is) c = onSettled i (settled l (pickupIn c) (delayIn c) i) (λ o. workOut l is (putRow c i o))
+workOut l (i ∷ is) c = onSettled i (settled (viewOf l) (cardRowAt c) i) (λ k. workOut l is (putCardRow c i k))
 
 -- the n rows i, i + 1, ..
 unfoldable pub upFrom : ℕ → ℕ → List ℕ

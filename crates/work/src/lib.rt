@@ -2,59 +2,48 @@
 // row that is worked out adds its own for the row that feeds it: so no row looks at its fed rows again.
 use answers::Answer;
 use answers::Tested;
+use copy::put;
 use grid::greater;
+use layout::CardRow;
+use layout::ROWS;
 use layout::Row;
+use layout::put_card_row;
 use layout::row_at;
 use settle::Fed;
-use settle::Outcome;
 use settle::Settled;
 use settle::asks;
-use settle::printed_cutoff;
+use settle::card_row;
 use settle::settle;
 ghost use mathlib.Core.Path.{_≡_};
-ghost use Prim.Native.Nat.{_+_, _-_, _*_, _<_, _≤_};
+ghost use Prim.Native.Nat.{_+_, _*_, _<_, _≤_};
 ghost use lib.ListN.{length};
-ghost use Rattle.layout.specs.Counts.{columnCount};
-ghost use Rattle.rows.specs.InRange.{Bounded};
-ghost use Rattle.layout.specs.List.{rowAt};
-ghost use Rattle.settle.specs.Fed.{FedBounded};
-ghost use Rattle.work.specs.Card.{putRow};
 ghost use Rattle.work.specs.Ready.{PushReady, WorkReady, Stepped};
-ghost use Rattle.work.specs.Sums.{fedAt, putFed, joined, pushed, step};
+ghost use Rattle.work.specs.Sums.{askCount, fedAt, putFed, joined, pushed, step};
+
+// What is asked of a row is so many numbers; room for those of the longest list.
+const ASKS: usize = 4;
+
+pub const SUMS: usize = ROWS * ASKS;
 
 fn fed_at(sums: &[u64], k: usize) -> Fed
-    requires { ⌜ k * 4 + 4 ≤ length (now sums) ⌝ }
+    requires { ⌜ k * askCount + askCount ≤ length (now sums) ⌝ }
     ensures { λ f. ⌜ f ≡ fedAt (now (sums .entry)) k ⌝ }
 {
-    let at = k * 4;
+    let at = k * ASKS;
     Fed {
-        load: sums[at],
-        clearance: sums[at + 1],
+        load: sums[at + 0],
+        excess: sums[at + 1],
         shortfall: sums[at + 2],
         earliest: sums[at + 3],
     }
 }
 
 fn put_fed(sums: &mut [u64], k: usize, f: Fed)
-    requires { ⌜ k * 4 + 4 ≤ length (now sums) ⌝ }
+    requires { ⌜ k * askCount + askCount ≤ length (now sums) ⌝ }
     ensures { λ _. ⌜ now (sums .exit) ≡ putFed (now (sums .entry)) k f ⌝ }
 {
-    let at = k * 4;
-    sums[at] = f.load;
-    sums[at + 1] = f.clearance;
-    sums[at + 2] = f.shortfall;
-    sums[at + 3] = f.earliest;
-}
-
-fn put_row(card: &mut [u64], i: usize, o: Outcome)
-    requires { ⌜ i * columnCount + columnCount ≤ length (now card) ⌝ }
-    ensures { λ _. ⌜ now (card .exit) ≡ putRow (now (card .entry)) i o ⌝ }
-{
-    let at = i * 3;
-    let cutoff = o.cutoff;
-    card[at] = o.pickup;
-    card[at + 1] = o.delay;
-    card[at + 2] = printed_cutoff(cutoff);
+    let asked = [f.load, f.excess, f.shortfall, f.earliest];
+    put(sums, k * ASKS, &asked);
 }
 
 fn join(a: Fed, b: Fed) -> Fed
@@ -63,23 +52,23 @@ fn join(a: Fed, b: Fed) -> Fed
 {
     Fed {
         load: a.load + b.load,
-        clearance: greater(a.clearance, b.clearance),
+        excess: greater(a.excess, b.excess),
         shortfall: greater(a.shortfall, b.shortfall),
         earliest: greater(a.earliest, b.earliest),
     }
 }
 
-// Adds what a settled row asks for the row that feeds it.
-pub fn push(r: Row, pickup: u64, delay: u64, sums: &mut [u64])
-    requires { ⌜ PushReady r pickup delay (now sums) ⌝ }
-    ensures { λ _. ⌜ now (sums .exit) ≡ pushed r pickup delay (now (sums .entry)) ⌝ }
+// Adds what a row with these settings asks for the row that feeds it.
+pub fn push(r: Row, k: CardRow, sums: &mut [u64])
+    requires { ⌜ PushReady r k (now sums) ⌝ }
+    ensures { λ _. ⌜ now (sums .exit) ≡ pushed r k (now (sums .entry)) ⌝ }
 {
     if r.feeder == 0 {
         return;
     }
-    let k = (r.feeder - 1) as usize;
-    let f = join(fed_at(sums, k), asks(r, pickup, delay));
-    put_fed(sums, k, f);
+    let at = (r.feeder - 1) as usize;
+    let f = join(fed_at(sums, at), asks(r, k));
+    put_fed(sums, at, f);
 }
 
 // Works out one row: its settings go to the card, what it asks to the sums. A refusal changes neither.
@@ -89,11 +78,11 @@ pub fn work_row(list: &[u64], i: usize, card: &mut [u64], sums: &mut [u64]) -> T
 {
     let r = row_at(list, i);
     match settle(r, fed_at(sums, i)) {
-        Settled::NoPickup => Tested::Refused(Answer::Pickup((i as u64) + 1)),
-        Settled::NoDelay => Tested::Refused(Answer::Delay((i as u64) + 1)),
+        Settled::Unset(why) => Tested::Refused(Answer::Unsettled((i as u64) + 1, why)),
         Settled::Set(o) => {
-            put_row(card, i, o);
-            push(r, o.pickup, o.delay, sums);
+            let k = card_row(o);
+            put_card_row(card, i, k);
+            push(r, k, sums);
             Tested::Passed
         }
     }

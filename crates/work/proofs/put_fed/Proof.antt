@@ -1,71 +1,29 @@
--- `work::put_fed` meets its contract: four stores are the four of `putFed`.
--- Assumes nothing.
-use native.Mathlib.Omega.{arith}
+-- `work::put_fed` meets its contract: the four numbers, copied as one block, are those that `putFed` puts in.
 use borrow.Author.Needs.{needs}
-use lib.ListN.{length-set}
-use mathlib.Core.Path.{refl}
-use Rattle.work.specs.Sums.{putFed}
+use mathlib.Core.Path.{_∙_}
+use Rattle.copy.proofs.BlockLaws.{pasted-sets}
+use Rattle.work.specs.Sums.{asksOf, putFed}
 use Rattle.work.proofs.put_fed.Statement.{statement}
 use Rattle.work.proofs.put_fed.Tie as tie
 
-mul-at : tie.Need-mul-at
-mul-at c = search needs
+mul-put : tie.Need-mul-put
+mul-put c = search needs
 
-mul-sums : tie.Need-mul-sums
-mul-sums c = search needs
+slice-aggregate-put : tie.Need-slice-aggregate-put
+slice-aggregate-put c = search needs
 
-slice-write-sums : tie.Need-slice-write-sums
-slice-write-sums c = search needs
-
-add-sums : tie.Need-add-sums
-add-sums c = search needs
-
-mul-sums-2 : tie.Need-mul-sums-2
-mul-sums-2 c = search needs
-
-slice-write-sums-2 : tie.Need-slice-write-sums-2
-slice-write-sums-2 c = simp length-set (omega arith)
-
-add-sums-2 : tie.Need-add-sums-2
-add-sums-2 c = search needs
-
-mul-sums-3 : tie.Need-mul-sums-3
-mul-sums-3 c = search needs
-
-slice-write-sums-3 : tie.Need-slice-write-sums-3
-slice-write-sums-3 c = simp length-set (omega arith)
-
-add-sums-3 : tie.Need-add-sums-3
-add-sums-3 c = search needs
-
-mul-sums-4 : tie.Need-mul-sums-4
-mul-sums-4 c = search needs
-
-slice-write-sums-4 : tie.Need-slice-write-sums-4
-slice-write-sums-4 c = simp length-set (omega arith)
+put-requires : tie.Need-put-requires
+put-requires c κs = search needs
 
 same-length : tie.Need-same-length
 same-length c = search needs
 
 returns : tie.Need-returns
 unfolding putFed
-returns c = refl
+returns c =
+    let start = c .before .before .before .before .before .before in
+    c .before .before .put .ensures ∙ pasted-sets _ _ (asksOf (start .args .f)) (start .pre)
 
 pub put-fed-spec : {M : Type 1} → statement M
 put-fed-spec =
-    tie.close
-    (tie.spec
-    mul-at
-    mul-sums
-    slice-write-sums
-    add-sums
-    mul-sums-2
-    slice-write-sums-2
-    add-sums-2
-    mul-sums-3
-    slice-write-sums-3
-    add-sums-3
-    mul-sums-4
-    slice-write-sums-4
-    same-length
-    returns)
+    tie.close (tie.spec mul-put slice-aggregate-put put-requires same-length returns)
