@@ -64,6 +64,11 @@ unfolding maxTo
 maxTo-same f g zero h = refl
 maxTo-same f g (suc n) h = ap₂ max (maxTo-same f g n (λ j l. h j (omega arith))) (h n (omega arith))
 
+pub every-same : (f g : ℕ → Bool) (n : ℕ) → ((j : ℕ) → j < n → f j ≡ g j) → every n f ≡ every n g
+unfolding every
+every-same f g zero h = refl
+every-same f g (suc n) h = ap₂ _&&_ (every-same f g n (λ j l. h j (omega arith))) (h n (omega arith))
+
 -- a sum whose terms from i on are 0 ends at i
 pub sumTo-stops : (f : ℕ → ℕ) (i d : ℕ) → ((j : ℕ) → i ≤ j → f j ≡ 0) → sumTo (i + d) f ≡ sumTo i f
 unfolding sumTo

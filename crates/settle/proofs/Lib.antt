@@ -1,3 +1,4 @@
 pub mod FedLaws
 pub mod PickupLaws
 pub mod OutcomeLaws
+pub mod SameLaws

@@ -1,4 +1,4 @@
--- The whole calculation's answer, one law for each way that it ends. Assumes nothing.
+-- The whole calculation's answer, one law for each way that it ends.
 use mathlib.Core.Path.{_≡_, refl, sym, ap, _∙_}
 use mathlib.Core.List.{List, _++_}
 use Prim.Native.Nat.{ℕ, _*_, _≤_}
@@ -12,8 +12,9 @@ use Rattle.answers.specs.declared.Tested.{Tested}
 use Rattle.answers.specs.declared.Tested.the-variants.{Passed, Refused}
 use Rattle.layout.specs.List.{rows}
 use Rattle.rows.specs.Tests.{sizeTest, rowsTest}
-use Rattle.rows.proofs.InRangeLaws.{passed-in-range, passed-feeds}
+use Rattle.rows.proofs.InRangeLaws.{passed-feeds}
 use Rattle.rows.proofs.TestLaws.{SizeRight, size-passed}
+use Rattle.work.specs.Sums.{askCount}
 use Rattle.work.specs.WorkOut.{Worked}
 use Rattle.whole.specs.Ready.{AllReady, Answered}
 use Rattle.whole.specs.Whole.{ending, after, calculation, workedAs, whole}
@@ -34,15 +35,18 @@ module _ (l c : List ℕ) where
 
     module _ (t : Tested) (et : t ≡ rowsTest l) (ft : t ≡ Passed) where
       -- on a card of its own with room for every row, and sums that are 0
-      pub own-ready : (z y : List ℕ) → cardMost ≤ length z → 1024 ≤ length y → ((x : ℕ) → getD y x 0 ≡ 0) → AllReady l (rows l) z y
+      pub own-ready : (z y : List ℕ) → cardMost ≤ length z → rowsMost * askCount ≤ length y → ((x : ℕ) → getD y x 0 ≡ 0) → AllReady l (rows l) z y
       own-ready z y h k q =
           record {
             all-rows = refl;
-            rows-to = omega (arith, size .most-rows);
-            tested = sym et ∙ ft;
-            card-room = omega (arith, size .most-rows);
-            sums-room = omega (arith, size .most-rows);
-            sums-clear = q;
+            unworked =
+                record {
+                  rows-to = omega (arith, size .most-rows);
+                  tested = sym et ∙ ft;
+                  card-room = omega (arith, size .most-rows);
+                  sums-room = omega (arith, size .most-rows);
+                  sums-clear = q;
+                };
           }
 
       pub rows-to : rows l ≤ rowsMost
@@ -56,7 +60,7 @@ module _ (l c : List ℕ) where
       calculates z w h e =
           rw (sym es ∙ fs, sym et ∙ ft)
           (ap (ending c)
-          (calculation-frame l (passed-in-range l (sym et ∙ ft)) (passed-feeds l (sym et ∙ ft)) z c (omega (arith, size .most-rows)) (omega (arith, size .card-room)) ∙
+          (calculation-frame l (passed-feeds l (sym et ∙ ft)) z c (omega (arith, size .most-rows)) (omega (arith, size .card-room)) ∙
           ap (framed (rows l * columnCount) c) e))
 
       pub answered-refused : (z z′ : List ℕ) (w : Tested) (a : Answer) → cardMost ≤ length z → calculation l z ≡ workedAs w z′ → w ≡ Refused a → Answered (whole l c) a c

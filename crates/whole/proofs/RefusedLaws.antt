@@ -1,86 +1,97 @@
--- A calculation that ends in a refusal: which row it names, and why. Assumes nothing.
-use mathlib.Core.Path.{_≡_, refl}
+-- A calculation that ends in a refusal: which row it names, and why.
+use mathlib.Core.Path.{_≡_, refl, sym}
 use mathlib.Core.Bool.{false}
 use mathlib.Core.Logic.{_⊎_, inl, inr}
 use mathlib.Core.List.{List}
 use Prim.Native.Nat.{ℕ, zero, suc, _+_, _*_, _≤_, _<_}
+use native.Mathlib.Nat.{zero-add}
 use native.Mathlib.Omega.{arith}
 use lib.ListN.{length}
-use Rattle.layout.specs.Counts.{columnCount}
-use Rattle.grid.specs.Grid.{Available}
+use Rattle.grid.specs.declared.Found.{Found}
+use Rattle.grid.specs.declared.Found.the-variants.{At, Nothing}
 use Rattle.grid.proofs.BoolLaws.{fails, not-both}
-use Rattle.grid.proofs.GridLaws.{leastOn-nothing}
+use Rattle.grid.proofs.GridLaws.{leastOn-nothing, leastOn-least}
 use Rattle.answers.specs.declared.Answer.{Answer}
-use Rattle.answers.specs.declared.Answer.the-variants.{Pickup, Delay, Unsettled}
-use Rattle.layout.specs.List.{rows, rowAt}
+use Rattle.answers.specs.declared.Answer.the-variants.{Unsettled}
+use Rattle.answers.specs.declared.Reason.{Reason}
 use Rattle.answers.specs.declared.Reason.the-variants.{Pickup, Delay}
-use Rattle.rows.specs.InRange.{InRange, Feeds}
-use Rattle.rows.proofs.InRangeLaws.{row-bounded}
+use Rattle.layout.specs.Card.{cardRowAt, putCardRow}
+use Rattle.layout.specs.Counts.{columnCount}
+use Rattle.layout.specs.List.{rows}
+use Rattle.layout.specs.View.{View, viewOf, Settings}
+use Rattle.layout.proofs.CardLaws.{putCardRow-length}
+use Rattle.rows.specs.InRange.{AllBounded, Feeds}
 use Rattle.settle.specs.declared.Outcome.{Outcome}
 use Rattle.settle.specs.declared.Settled.{Settled}
 use Rattle.settle.specs.declared.Settled.the-variants.{Set, Unset}
-use Rattle.settle.specs.Settle.{meetsPickup, meetsDelay, leastPickup, leastDelay, settled}
+use Rattle.settle.specs.Settle.{meetsPickup, meetsDelay, leastPickup, leastDelay, shown, settled}
 use Rattle.settle.proofs.OutcomeLaws.{outcome-no-pickup, outcome-no-delay}
-use Rattle.work.specs.Card.{pickupIn, delayIn, putRow}
 use Rattle.work.specs.WorkOut.{refused, onSettled, workOut, upFrom}
-use Rattle.work.proofs.CardLaws.{putRow-length}
+use Rattle.work.proofs.EndLaws.{never-finished, same-refusal}
+use Rattle.whole.specs.Refused.{PickupFits, NoPickupFits, NoDelayFits, RefusedAt}
 use Rattle.whole.specs.Whole.{calculation}
 use Rattle.whole.proofs.MeetsLaws.{delay-met, delay-available}
-use Rattle.whole.proofs.SettledLaws.{RowSettled, next-settled}
+use Rattle.whole.proofs.SettledLaws.{Settles, next-settled}
 
--- no available pickup of row i meets P1 to P4, the rows below as the card has them
-pub NoPickupFits : List ℕ → List ℕ → ℕ → Type 0
-NoPickupFits l c i =
-    (I : ℕ) → Available (rowAt l i .low) (rowAt l i .high) (rowAt l i .step) I → meetsPickup l (pickupIn c) i I ≡ false
+-- why a row is not settled
+module _ (v : View) (a : AllBounded v) (k : Settings) (i : ℕ) (h : i < v .count) where
+  pub no-pickup-fits : settled v k i ≡ Unset Pickup → NoPickupFits v k i
+  unfolding settled
+  no-pickup-fits e I g =
+      leastOn-nothing _ _ _ (a i h .step-from) (meetsPickup v k i)
+      (outcome-no-pickup (v .row i) _ (leastDelay (v .row i) (meetsDelay v k i)) e) I g
 
--- no delay of row i meets D1 and D2, the rows below as the card has them
-pub NoDelayFits : List ℕ → List ℕ → ℕ → Type 0
-NoDelayFits l c i = (t : ℕ) → meetsDelay l (delayIn c) i t ≡ false
+  pub a-pickup-fits : settled v k i ≡ Unset Delay → PickupFits v k i
+  unfolding settled
+  a-pickup-fits e =
+      let f = outcome-no-delay (v .row i) (leastPickup (v .row i) (meetsPickup v k i)) (leastDelay (v .row i) (meetsDelay v k i)) e .0 in
+      let m = leastOn-least _ _ _ (a i h .step-from) (meetsPickup v k i) (f .0) (f .1) in
+      record { pickup = f .0; available = m .available; meets = m .passes }
 
--- the refusal names the first row for which, the rows below at their least settings, no pickup fits or else no delay
-pub record RefusedAt (l : List ℕ) (x : Answer) : Type 0 where
-  pub row : ℕ
-  pub within : row < rows l
-  pub card : List ℕ
-  pub rows-below : (j : ℕ) → j < row → RowSettled l card j
-  pub why : ((x ≡ Unsettled (row + 1) Pickup) × NoPickupFits l card row) ⊎ ((x ≡ Unsettled (row + 1) Delay) × NoDelayFits l card row)
-
-module _ (l : List ℕ) (a : InRange l) (b : Feeds l) where
-  no-pickup-fits : (c : List ℕ) (i : ℕ) → i < rows l → settled l (pickupIn c) (delayIn c) i ≡ Unset Pickup → NoPickupFits l c i
-  unfolding settled NoPickupFits
-  no-pickup-fits c i h e I v =
-      leastOn-nothing _ _ _ (row-bounded l a i h .step-from) (meetsPickup l (pickupIn c) i)
-      (outcome-no-pickup (rowAt l i) _ (leastDelay (rowAt l i) (meetsDelay l (delayIn c) i)) e) I v
-
-  no-delay-fits : (c : List ℕ) (i : ℕ) → settled l (pickupIn c) (delayIn c) i ≡ Unset Delay → NoDelayFits l c i
-  unfolding settled NoDelayFits
-  no-delay-fits c i e t =
-      fails (meetsDelay l (delayIn c) i t)
+  pub no-delay-fits : settled v k i ≡ Unset Delay → NoDelayFits v k i
+  unfolding settled
+  no-delay-fits e t =
+      fails (meetsDelay v k i t)
       (λ m.
       not-both m
-      (leastOn-nothing _ _ 1 (omega arith) (meetsDelay l (delayIn c) i)
-      (outcome-no-delay (rowAt l i) (leastPickup (rowAt l i) (meetsPickup l (pickupIn c) i)) _ e .1) t
-      (delay-available (rowAt l i) t (delay-met l (delayIn c) i t m .D1))))
+      (leastOn-nothing _ _ 1 (omega arith) (meetsDelay v k i)
+      (outcome-no-delay (v .row i) (leastPickup (v .row i) (meetsPickup v k i)) _ e .1) t
+      (delay-available (v .row i) t (delay-met v k i t m .D1))))
 
+module _ (l : List ℕ) (a : AllBounded (viewOf l)) (b : Feeds l) where
   refused-from :
-      (m i : ℕ) (c : List ℕ) (x : Answer) → i + m ≡ rows l → rows l * columnCount ≤ length c → ((j : ℕ) → j < i → RowSettled l c j) →
-      workOut l (upFrom i m) c ≡ refused x → RefusedAt l x
+      (m i : ℕ) (c : List ℕ) (x : Answer) → i + m ≡ rows l → rows l * columnCount ≤ length c → ((j : ℕ) → j < i → Settles l c j) →
+      workOut l (upFrom i m) c ≡ refused x → RefusedAt (viewOf l) x
   unfolding workOut upFrom onSettled
-  refused-from zero i c x n k all e = absurd (let z : _≡_ {A = ℕ} 0 1 = cc in omega arith)
+  refused-from zero i c x n k all e = absurd (never-finished (sym e))
   refused-from (suc m) i c x n k all e =
-      by-cases (settled l (pickupIn c) (delayIn c) i) refl e
-      (λ o s. refused-from m (suc i) (putRow c i o) x (omega arith) (rw (putRow-length c i o) k) (next-settled l a b i c o (omega arith) k s all))
+      by-cases (settled (viewOf l) (cardRowAt c) i) refl e
+      (λ o s.
+      refused-from m (suc i) (putCardRow c i (shown o)) x (omega arith) (rw (putCardRow-length c i (shown o)) k)
+      (next-settled l b i c o (omega arith) k s all))
     where
-      by-cases :
-          (s : Settled) → settled l (pickupIn c) (delayIn c) i ≡ s → onSettled i s (λ o. workOut l (upFrom (suc i) m) (putRow c i o)) ≡ refused x →
-          ((o : Outcome) → settled l (pickupIn c) (delayIn c) i ≡ Set o → workOut l (upFrom (suc i) m) (putRow c i o) ≡ refused x → RefusedAt l x) →
-          RefusedAt l x
-      by-cases (Set o) s e ih = ih o s e
-      by-cases (Unset Pickup) s e ih =
-          record { row = i; within = omega arith; card = c; rows-below = all; why = inl (cc, no-pickup-fits c i (omega arith) s) }
-      by-cases (Unset Delay) s e ih =
-          record { row = i; within = omega arith; card = c; rows-below = all; why = inr (cc, no-delay-fits c i s) }
+      h : i < rows l
+      h = omega arith
 
-  pub calculation-refused : (c : List ℕ) (x : Answer) → rows l * columnCount ≤ length c → calculation l c ≡ refused x → RefusedAt l x
+      named : (why : Reason) → settled (viewOf l) (cardRowAt c) i ≡ Unset why → x ≡ Unsettled (i + 1) why → RefusedAt (viewOf l) x
+      named Pickup s e =
+          record { row = i; within = h; card = c; rows-below = all; why = inl (e, no-pickup-fits (viewOf l) a (cardRowAt c) i h s) }
+      named Delay s e =
+          record {
+            row = i;
+            within = h;
+            card = c;
+            rows-below = all;
+            why = inr (e, a-pickup-fits (viewOf l) a (cardRowAt c) i h s, no-delay-fits (viewOf l) a (cardRowAt c) i h s);
+          }
+
+      by-cases :
+          (s : Settled) → settled (viewOf l) (cardRowAt c) i ≡ s → onSettled i s (λ k. workOut l (upFrom (suc i) m) (putCardRow c i k)) ≡ refused x →
+          ((o : Outcome) → settled (viewOf l) (cardRowAt c) i ≡ Set o → workOut l (upFrom (suc i) m) (putCardRow c i (shown o)) ≡ refused x →
+          RefusedAt (viewOf l) x) → RefusedAt (viewOf l) x
+      by-cases (Set o) s e ih = ih o s e
+      by-cases (Unset why) s e ih = named why s (sym (same-refusal e))
+
+  pub calculation-refused : (c : List ℕ) (x : Answer) → rows l * columnCount ≤ length c → calculation l c ≡ refused x → RefusedAt (viewOf l) x
   unfolding calculation
-  calculation-refused c x k e = refused-from (rows l) 0 c x (native.Mathlib.Nat.zero-add (rows l)) k (λ j g. absurd (omega arith)) e
+  calculation-refused c x k e = refused-from (rows l) 0 c x (zero-add (rows l)) k (λ j g. absurd (omega arith)) e

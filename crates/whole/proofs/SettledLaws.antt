@@ -1,85 +1,86 @@
--- A finished calculation leaves every row at its own least settings on that very card. Assumes nothing.
+-- A finished calculation leaves every row at its own least settings on that very card.
 use mathlib.Core.Path.{_≡_, refl, sym, _∙_}
 use mathlib.Core.List.{List}
 use Prim.Native.Nat.{ℕ, zero, suc, _+_, _*_, _≤_, _<_}
+use native.Mathlib.Nat.{zero-add}
 use native.Mathlib.Omega.{arith}
 use lib.ListN.{length}
-use Rattle.layout.specs.Counts.{columnCount}
 use Rattle.grid.proofs.FoldLaws.{below-cases}
+use Rattle.layout.specs.declared.CardRow.{CardRow}
+use Rattle.layout.specs.Card.{cardRowAt, putCardRow}
+use Rattle.layout.specs.Counts.{columnCount}
 use Rattle.layout.specs.List.{rows}
-use Rattle.rows.specs.InRange.{InRange, Feeds}
+use Rattle.layout.specs.View.{viewOf}
+use Rattle.layout.proofs.CardLaws.{putCardRow-length, putCardRow-own, putCardRow-other}
+use Rattle.rows.specs.InRange.{Feeds}
 use Rattle.settle.specs.declared.Outcome.{Outcome}
 use Rattle.settle.specs.declared.Settled.{Settled}
 use Rattle.settle.specs.declared.Settled.the-variants.{Set, Unset}
-use Rattle.settle.specs.Settle.{settled, printed}
-use Rattle.work.specs.Card.{pickupIn, delayIn, cutoffIn, putRow}
+use Rattle.settle.specs.Settle.{shown, settled}
 use Rattle.work.specs.WorkOut.{finished, onSettled, workOut, upFrom}
-use Rattle.work.proofs.CardLaws.{putRow-length, putRow-other, putRow-pickup, putRow-delay, putRow-cutoff}
+use Rattle.work.proofs.EndLaws.{never-finished}
+use Rattle.whole.specs.Refused.{RowSettled}
 use Rattle.whole.specs.Whole.{calculation}
 use Rattle.whole.proofs.FrameLaws.{Agree, settled-agree}
 
--- row j of the card is what row j settles at on that card
-pub record RowSettled (l c : List ℕ) (j : ℕ) : Type 0 where
-  pub outcome : Outcome
-  pub settles : settled l (pickupIn c) (delayIn c) j ≡ Set outcome
-  pub pickup : pickupIn c j ≡ outcome .pickup
-  pub delay : delayIn c j ≡ outcome .delay
-  pub cutoff : cutoffIn c j ≡ printed (outcome .cutoff)
+-- a row of a card settled on it
+abbrev pub Settles : List ℕ → List ℕ → ℕ → Type 0
+Settles l c j = RowSettled (viewOf l) (cardRowAt c) j
 
 -- a row put in leaves the rows below it as they were
-pub putRow-agrees : (c : List ℕ) (i : ℕ) (o : Outcome) (n : ℕ) → n ≤ i * columnCount → Agree n c (putRow c i o)
+pub put-agrees : (c : List ℕ) (i : ℕ) (k : CardRow) (n : ℕ) → n ≤ i → Agree n c (putCardRow c i k)
 unfolding Agree
-putRow-agrees c i o n h x b = sym (putRow-other c i o x (λ e. omega arith) (λ e. omega arith) (λ e. omega arith))
+put-agrees c i k n h j b = sym (putCardRow-other c i k j (λ e. omega arith))
 
-module _ (l : List ℕ) (a : InRange l) (b : Feeds l) where
+module _ (l : List ℕ) (b : Feeds l) where
   -- a row below i stays settled, and row i is settled, when row i's outcome is put in
-  still-settled : (i : ℕ) (c : List ℕ) (o : Outcome) → i < rows l → (j : ℕ) → j < i → RowSettled l c j → RowSettled l (putRow c i o) j
-  unfolding Agree
-  still-settled i c o h j g r =
+  still-settled : (i : ℕ) (c : List ℕ) (k : CardRow) (j : ℕ) → j < i → Settles l c j → Settles l (putCardRow c i k) j
+  still-settled i c k j g r =
       record {
         outcome = r .outcome;
-        settles = sym (settled-agree l a b j c (putRow c i o) (omega arith) (putRow-agrees c i o (j * columnCount) (omega arith))) ∙ r .settles;
-        pickup = sym (putRow-agrees c i o (i * columnCount) (omega arith) (j * columnCount) (omega arith)) ∙ r .pickup;
-        delay = sym (putRow-agrees c i o (i * columnCount) (omega arith) (j * columnCount + 1) (omega arith)) ∙ r .delay;
-        cutoff = sym (putRow-agrees c i o (i * columnCount) (omega arith) (j * columnCount + 2) (omega arith)) ∙ r .cutoff;
+        settles = sym (settled-agree l b j c (putCardRow c i k) (put-agrees c i k j (omega arith))) ∙ r .settles;
+        shows = putCardRow-other c i k j (λ e. omega arith) ∙ r .shows;
       }
 
-  now-settled : (i : ℕ) (c : List ℕ) (o : Outcome) → i < rows l → rows l * columnCount ≤ length c → settled l (pickupIn c) (delayIn c) i ≡ Set o → RowSettled l (putRow c i o) i
+  now-settled :
+      (i : ℕ) (c : List ℕ) (o : Outcome) → i < rows l → rows l * columnCount ≤ length c → settled (viewOf l) (cardRowAt c) i ≡ Set o →
+      Settles l (putCardRow c i (shown o)) i
   now-settled i c o h k e =
       record {
         outcome = o;
-        settles = sym (settled-agree l a b i c (putRow c i o) h (putRow-agrees c i o (i * columnCount) (omega arith))) ∙ e;
-        pickup = putRow-pickup c i o (omega arith);
-        delay = putRow-delay c i o (omega arith);
-        cutoff = putRow-cutoff c i o (omega arith);
+        settles = sym (settled-agree l b i c (putCardRow c i (shown o)) (put-agrees c i (shown o) i (omega arith))) ∙ e;
+        shows = putCardRow-own c i (shown o) (omega arith);
       }
 
   pub next-settled :
-      (i : ℕ) (c : List ℕ) (o : Outcome) → i < rows l → rows l * columnCount ≤ length c → settled l (pickupIn c) (delayIn c) i ≡ Set o →
-      ((j : ℕ) → j < i → RowSettled l c j) → (j : ℕ) → j < suc i → RowSettled l (putRow c i o) j
+      (i : ℕ) (c : List ℕ) (o : Outcome) → i < rows l → rows l * columnCount ≤ length c → settled (viewOf l) (cardRowAt c) i ≡ Set o →
+      ((j : ℕ) → j < i → Settles l c j) → (j : ℕ) → j < suc i → Settles l (putCardRow c i (shown o)) j
   next-settled i c o h k e all j g =
       below-cases g
       (λ q. rw q (now-settled i c o h k e))
-      (λ q. still-settled i c o h j q (all j q))
+      (λ q. still-settled i c (shown o) j q (all j q))
 
   settled-from :
-      (m i : ℕ) (c c′ : List ℕ) → i + m ≡ rows l → rows l * columnCount ≤ length c → ((j : ℕ) → j < i → RowSettled l c j) →
-      workOut l (upFrom i m) c ≡ finished c′ → (j : ℕ) → j < rows l → RowSettled l c′ j
+      (m i : ℕ) (c c′ : List ℕ) → i + m ≡ rows l → rows l * columnCount ≤ length c → ((j : ℕ) → j < i → Settles l c j) →
+      workOut l (upFrom i m) c ≡ finished c′ → (j : ℕ) → j < rows l → Settles l c′ j
   unfolding workOut upFrom onSettled
   settled-from zero i c c′ n k all e j h =
       let q : c ≡ c′ = cc in
       rw (← q) (all j (omega arith))
   settled-from (suc m) i c c′ n k all e j h =
-      by-cases (settled l (pickupIn c) (delayIn c) i) refl e
-      (λ o s. settled-from m (suc i) (putRow c i o) c′ (omega arith) (rw (putRow-length c i o) k) (next-settled i c o (omega arith) k s all)) j h
+      by-cases (settled (viewOf l) (cardRowAt c) i) refl e
+      (λ o s.
+      settled-from m (suc i) (putCardRow c i (shown o)) c′ (omega arith) (rw (putCardRow-length c i (shown o)) k)
+      (next-settled i c o (omega arith) k s all)) j h
     where
       by-cases :
-          (s : Settled) → settled l (pickupIn c) (delayIn c) i ≡ s → onSettled i s (λ o. workOut l (upFrom (suc i) m) (putRow c i o)) ≡ finished c′ →
-          ((o : Outcome) → settled l (pickupIn c) (delayIn c) i ≡ Set o → workOut l (upFrom (suc i) m) (putRow c i o) ≡ finished c′ → (j : ℕ) → j < rows l → RowSettled l c′ j) →
-          (j : ℕ) → j < rows l → RowSettled l c′ j
+          (s : Settled) → settled (viewOf l) (cardRowAt c) i ≡ s → onSettled i s (λ k. workOut l (upFrom (suc i) m) (putCardRow c i k)) ≡ finished c′ →
+          ((o : Outcome) → settled (viewOf l) (cardRowAt c) i ≡ Set o → workOut l (upFrom (suc i) m) (putCardRow c i (shown o)) ≡ finished c′ →
+          (j : ℕ) → j < rows l → Settles l c′ j) →
+          (j : ℕ) → j < rows l → Settles l c′ j
       by-cases (Set o) s e ih = ih o s e
-      by-cases (Unset why) s e ih = absurd (let z : _≡_ {A = ℕ} 0 1 = cc in omega arith)
+      by-cases (Unset why) s e ih = absurd (never-finished e)
 
-  pub calculation-settled : (c c′ : List ℕ) → rows l * columnCount ≤ length c → calculation l c ≡ finished c′ → (j : ℕ) → j < rows l → RowSettled l c′ j
+  pub calculation-settled : (c c′ : List ℕ) → rows l * columnCount ≤ length c → calculation l c ≡ finished c′ → (j : ℕ) → j < rows l → Settles l c′ j
   unfolding calculation
-  calculation-settled c c′ k e = settled-from (rows l) 0 c c′ (native.Mathlib.Nat.zero-add (rows l)) k (λ j g. absurd (omega arith)) e
+  calculation-settled c c′ k e = settled-from (rows l) 0 c c′ (zero-add (rows l)) k (λ j g. absurd (omega arith)) e

@@ -1,18 +1,28 @@
--- Demand 2: when settings meet every condition of section 3 together, in all rows at once. Definitions only.
--- p gives each row its pickup and d its delay; rows are counted from 0.
+-- Demand 2: when settings meet every condition of section 3 together, in all rows at once: the pickups by themselves, and the
+-- delays by themselves. k gives each row its settings; rows are counted from 0. Definitions only.
 use mathlib.Core.Path.{_≡_}
 use mathlib.Core.Bool.{true}
-use mathlib.Core.List.{List}
 use Prim.Native.Nat.{ℕ, _<_}
 use Rattle.grid.specs.Grid.{Available}
-use Rattle.layout.specs.List.{rows, rowAt}
+use Rattle.layout.specs.declared.Row.{Row}
+use Rattle.layout.specs.View.{View, Settings}
 use Rattle.settle.specs.Conditions.{fed, returnsAfterSelfStart, clearOf, seesOwnZone, backsUp, withinDelays, gradedAbove}
 
-pub record Meets (l : List ℕ) (p d : ℕ → ℕ) : Type 0 where
-  pub available : (i : ℕ) → i < rows l → Available (rowAt l i .low) (rowAt l i .high) (rowAt l i .step) (p i)
-  pub P1 : (i : ℕ) → i < rows l → returnsAfterSelfStart (rowAt l i) (p i) ≡ true
-  pub P2 : (i j : ℕ) → i < rows l → j < rows l → fed l i j ≡ true → clearOf l p i j (p i) ≡ true
-  pub P3 : (i : ℕ) → i < rows l → seesOwnZone (rowAt l i) (p i) ≡ true
-  pub P4 : (i j : ℕ) → i < rows l → j < rows l → fed l i j ≡ true → backsUp (rowAt l i) (rowAt l j) (p i) ≡ true
-  pub D1 : (i : ℕ) → i < rows l → withinDelays (rowAt l i) (d i) ≡ true
-  pub D2 : (i j : ℕ) → i < rows l → j < rows l → fed l i j ≡ true → gradedAbove (rowAt l j) (d j) (d i) ≡ true
+-- x is one of the pickups that a row's relay offers
+abbrev pub AvailableOn : Row → ℕ → Type 0
+AvailableOn r x = Available (r .low) (r .high) (r .step) x
+
+pub record PickupsMeet (v : View) (k : Settings) : Type 0 where
+  pub available : (i : ℕ) → i < v .count → AvailableOn (v .row i) (k i .pickup)
+  pub P1 : (i : ℕ) → i < v .count → returnsAfterSelfStart (v .row i) (k i .pickup) ≡ true
+  pub P2 : (i j : ℕ) → i < v .count → j < v .count → fed v i j ≡ true → clearOf v k i j (k i .pickup) ≡ true
+  pub P3 : (i : ℕ) → i < v .count → seesOwnZone (v .row i) (k i .pickup) ≡ true
+  pub P4 : (i j : ℕ) → i < v .count → j < v .count → fed v i j ≡ true → backsUp (v .row i) (v .row j) (k i .pickup) ≡ true
+
+pub record DelaysMeet (v : View) (k : Settings) : Type 0 where
+  pub D1 : (i : ℕ) → i < v .count → withinDelays (v .row i) (k i .delay) ≡ true
+  pub D2 : (i j : ℕ) → i < v .count → j < v .count → fed v i j ≡ true → gradedAbove (v .row j) (k j) (k i .delay) ≡ true
+
+pub record Meets (v : View) (k : Settings) : Type 0 where
+  pub pickups : PickupsMeet v k
+  pub delays : DelaysMeet v k

@@ -1,24 +1,17 @@
 -- What the functions of the whole calculation ask of their callers, and the shape of their promises. Definitions only.
 use mathlib.Core.Path.{_≡_}
 use mathlib.Core.List.{List}
-use Prim.Native.Nat.{ℕ, _*_, _≤_}
-use lib.ListN.{length, getD}
-use Rattle.layout.specs.Counts.{columnCount, rowsMost}
+use Prim.Native.Nat.{ℕ}
 use Rattle.answers.specs.declared.Answer.{Answer}
-use Rattle.answers.specs.declared.Tested.the-variants.{Passed}
 use Rattle.answers.specs.Answer.{givenBy}
 use Rattle.layout.specs.List.{rows}
-use Rattle.rows.specs.Tests.{rowsTest}
+use Rattle.work.specs.Working.{Unworked}
 use Rattle.whole.specs.Whole.{Result}
 
--- n rows, tested, with room on the card, and sums that are all 0
+-- all n rows of a list, none worked out
 pub record AllReady (l : List ℕ) (n : ℕ) (c s : List ℕ) : Type 0 where
   pub all-rows : n ≡ rows l
-  pub rows-to : n ≤ rowsMost
-  pub tested : rowsTest l ≡ Passed
-  pub card-room : n * columnCount ≤ length c
-  pub sums-room : n * 4 ≤ length s
-  pub sums-clear : (x : ℕ) → getD s x 0 ≡ 0
+  pub unworked : Unworked l c s
 
 -- the answer and the card are the result's
 pub record Answered (z : Result) (a : Answer) (c : List ℕ) : Type 0 where

@@ -4,9 +4,12 @@ use answers::NUMBERS;
 use answers::Tested;
 use answers::numbers;
 use copy::put;
+use layout::CARD;
+use layout::COLUMNS;
 use layout::FIELDS;
 use rows::test_rows;
 use rows::test_size;
+use work::SUMS;
 use work::work_row;
 ghost use mathlib.Core.Path.{_≡_};
 ghost use mathlib.Core.List.{_++_};
@@ -52,13 +55,13 @@ fn answer(list: &[u64], card: &mut [u64]) -> Answer
         return a;
     }
     let n = list.len() / FIELDS;
-    let mut out = [0u64; 768];
-    let mut sums = [0u64; 1024];
+    let mut out = [0u64; CARD];
+    let mut sums = [0u64; SUMS];
     let worked = work_all(list, n, &mut out, &mut sums);
     if let Tested::Refused(a) = worked {
         return a;
     }
-    copy_front(card, &out, 3 * n);
+    copy_front(card, &out, COLUMNS * n);
     Answer::Done
 }
 

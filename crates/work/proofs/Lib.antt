@@ -1,3 +1,5 @@
+pub mod EndLaws
+pub mod StartLaws
 pub mod StepLaws
 pub mod SumsLaws
 pub mod WorkingLaws

@@ -4,13 +4,15 @@ use mathlib.Core.Path.{_≡_}
 use mathlib.Core.Bool.{Bool, true, cond, _&&_}
 use mathlib.Core.List.{List}
 use Prim.Native.Nat.{ℕ, _*_, _≤_, _<_}
-use lib.ListN.{length}
+use lib.ListN.{length, getD}
 use Rattle.grid.specs.Fold.{sumTo, maxTo}
+use Rattle.answers.specs.declared.Tested.the-variants.{Passed}
 use Rattle.layout.specs.Card.{cardRowAt}
 use Rattle.layout.specs.Counts.{columnCount, rowsMost}
 use Rattle.layout.specs.List.{rows}
 use Rattle.layout.specs.View.{View, viewOf, Settings}
 use Rattle.rows.specs.InRange.{InRange, Feeds}
+use Rattle.rows.specs.Tests.{rowsTest}
 use Rattle.settle.specs.declared.Fed.{Fed}
 use Rattle.settle.specs.Conditions.{fed, loadOf}
 use Rattle.settle.specs.Fed.{excess, shortfall, earliest, CardBounded}
@@ -35,3 +37,11 @@ pub record Working (l : List ℕ) (done matters : ℕ → Bool) (c s : List ℕ)
   pub sums-room : rows l * askCount ≤ length s
   pub settings-to : (j : ℕ) → j < rows l → done j ≡ true → CardBounded (cardRowAt c j)
   pub summed : (i : ℕ) → i < rows l → matters i ≡ true → fedAt s i ≡ gatheredBy done (viewOf l) (cardRowAt c) i
+
+-- a tested list, with room on the card and in the sums, before any row is worked out
+pub record Unworked (l c s : List ℕ) : Type 0 where
+  pub rows-to : rows l ≤ rowsMost
+  pub tested : rowsTest l ≡ Passed
+  pub card-room : rows l * columnCount ≤ length c
+  pub sums-room : rows l * askCount ≤ length s
+  pub sums-clear : (x : ℕ) → getD s x 0 ≡ 0

@@ -6,7 +6,7 @@ use mathlib.Core.Path.{_≡_}
 use lib.Dec.{lit≤}
 use lib.ListN.{length}
 use Rattle.layout.specs.Counts.{cardMost}
-use Rattle.whole.proofs.AllLaws.{clear-reads}
+use Rattle.work.proofs.StartLaws.{clear-reads}
 use Rattle.whole.proofs.AnswerLaws.{answered-size, answered-rows, own-ready, rows-to, room-for, answered-refused, answered-done}
 use Rattle.whole.proofs.answer.Statement.{statement}
 use Rattle.whole.proofs.answer.Tie as tie

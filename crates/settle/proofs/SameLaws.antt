@@ -1,0 +1,80 @@
+-- A row's least settings depend only on its own fields, on the rows that it feeds and on their settings. So rows below that
+-- agree settle it alike. Fed rows stand below their feeder.
+use mathlib.Core.Path.{_≡_, refl, sym, ap, _∙_}
+use mathlib.Core.Bool.{Bool, true, false, not, cond, _&&_, _||_}
+use mathlib.Core.Logic.{⊎-elim}
+use mathlib.Core.List.{List}
+use Prim.Native.Nat.{ℕ, _+_, _*_, _<_}
+use native.Mathlib.Omega.{arith}
+use lib.Dec.{leb, eqb}
+use borrow.Author.Tests.{eqb-true, eqb-false}
+use Rattle.grid.specs.Fold.{sumTo, every}
+use Rattle.grid.proofs.BoolLaws.{passes-or-fails, and-left}
+use Rattle.grid.proofs.FoldLaws.{sumTo-same, every-same}
+use Rattle.layout.specs.declared.Row.{Row}
+use Rattle.layout.specs.Fields.{atFeeder}
+use Rattle.layout.specs.List.{rows, field}
+use Rattle.layout.specs.View.{View, viewOf, Settings}
+use Rattle.rows.specs.InRange.{Feeds}
+use Rattle.rows.proofs.InRangeLaws.{feeder-above, feeder-of-last}
+use Rattle.settle.specs.Conditions.{fed, eachFed, loadOf, othersLoad, returnsAfterSelfStart, clearOf, seesOwnZone, backsUp, withinDelays, gradedAbove}
+use Rattle.settle.specs.Settle.{meetsPickup, meetsDelay, leastPickup, leastDelay, outcomeOf, settled}
+
+counted-same : (b b′ : Bool) (x x′ : ℕ) → b ≡ b′ → (b ≡ true → x ≡ x′) → cond b x 0 ≡ cond b′ x′ 0
+counted-same true b′ x x′ e h = ap (λ (b : Bool). cond b x 0) e ∙ rw (← e) (h refl)
+counted-same false b′ x x′ e h = rw (← e)
+
+tested-same : (b b′ x x′ : Bool) → b ≡ b′ → (b ≡ true → x ≡ x′) → (not b || x) ≡ (not b′ || x′)
+tested-same true b′ x x′ e h = h refl ∙ ap (λ (b : Bool). not b || x′) e
+tested-same false b′ x x′ e h = ap (λ (b : Bool). not b || x′) e
+
+-- row i of two views, with the same fields, feeding the same rows with the same fields and settings
+module _ (v v′ : View) (k k′ : Settings) (i : ℕ) (n : v .count ≡ v′ .count) (r : v .row i ≡ v′ .row i)
+    (feeding : (j : ℕ) → j < v .count → fed v i j ≡ fed v′ i j)
+    (fields : (j : ℕ) → j < v .count → fed v i j ≡ true → v .row j ≡ v′ .row j)
+    (settings : (j : ℕ) → j < v .count → fed v i j ≡ true → k j ≡ k′ j) where
+  each-same :
+      (ok ok′ : ℕ → Bool) → ((j : ℕ) → j < v .count → fed v i j ≡ true → ok j ≡ ok′ j) → eachFed v i ok ≡ eachFed v′ i ok′
+  each-same ok ok′ h =
+      every-same (λ j. not (fed v i j) || ok j) (λ j. not (fed v′ i j) || ok′ j) (v .count)
+      (λ j b. tested-same (fed v i j) (fed v′ i j) (ok j) (ok′ j) (feeding j b) (h j b)) ∙
+      ap (λ (m : ℕ). every m (λ j. not (fed v′ i j) || ok′ j)) n
+
+  others-same : (j : ℕ) → othersLoad v i j ≡ othersLoad v′ i j
+  others-same j =
+      sumTo-same _ _ (v .count)
+      (λ x b.
+      counted-same (fed v i x && not (eqb x j)) (fed v′ i x && not (eqb x j)) _ _
+      (ap (λ (t : Bool). t && not (eqb x j)) (feeding x b))
+      (λ t. ap (λ (f : Row). f .work * f .volts) (fields x b (and-left (fed v i x) _ t)))) ∙
+      ap (λ (m : ℕ). sumTo m (λ x. cond (fed v′ i x && not (eqb x j)) (loadOf v′ x) 0)) n
+
+  pickup-same : (I : ℕ) → meetsPickup v k i I ≡ meetsPickup v′ k′ i I
+  unfolding meetsPickup clearOf
+  pickup-same I =
+      λ t.
+      (returnsAfterSelfStart (r t) I &&
+      each-same (λ j. clearOf v k i j I) (λ j. clearOf v′ k′ i j I)
+      (λ j b g.
+      λ u. leb (11 * (settings j b g u .pickup * fields j b g u .volts + others-same j u)) (10 * I * r u .volts)) t) &&
+      (seesOwnZone (r t) I &&
+      each-same (λ j. backsUp (v .row i) (v .row j) I) (λ j. backsUp (v′ .row i) (v′ .row j) I) (λ j b g. λ u. backsUp (r u) (fields j b g u) I) t)
+
+  delay-same : (d : ℕ) → meetsDelay v k i d ≡ meetsDelay v′ k′ i d
+  unfolding meetsDelay
+  delay-same d =
+      λ t.
+      withinDelays (r t) d &&
+      each-same (λ j. gradedAbove (v .row j) (k j) d) (λ j. gradedAbove (v′ .row j) (k′ j) d) (λ j b g. λ u. gradedAbove (fields j b g u) (settings j b g u) d) t
+
+  pub settled-same : settled v k i ≡ settled v′ k′ i
+  unfolding settled
+  settled-same = λ t. outcomeOf (r t) (leastPickup (r t) (λ I. pickup-same I t)) (leastDelay (r t) (λ d. delay-same d t))
+
+pub fed-below : (l : List ℕ) → Feeds l → (i j : ℕ) → j < rows l → fed (viewOf l) i j ≡ true → j < i
+fed-below l b i j h g =
+    let f = eqb-true (field l j atFeeder) (i + 1) g in
+    ⊎-elim
+    (λ e. absurd (omega (arith, feeder-of-last l b j h (eqb-true (j + 1) (rows l) e))))
+    (λ e. omega (arith, feeder-above l b j h (eqb-false (j + 1) (rows l) e) .0))
+    (passes-or-fails (eqb (j + 1) (rows l)))
