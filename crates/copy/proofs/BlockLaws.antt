@@ -4,13 +4,13 @@ use mathlib.Core.Path.{_≡_, refl, sym, ap, _∙_}
 use mathlib.Core.Bool.{Bool, true, false}
 use mathlib.Core.Logic.{_≢_}
 use mathlib.Core.List.{List, [], _∷_}
-use Prim.Native.Nat.{ℕ, zero, suc, _+_, _*_, _/_, _%_, _≤_, _<_}
+use Prim.Native.Nat.{ℕ, zero, suc, _+_, _-_, _*_, _/_, _%_, _≤_, _<_}
 use native.Mathlib.Nat.{add-suc, suc-add, suc-mul, mul-le-mul-right, div-add-mod', mod-lt, div-lt-iff-lt-mul}
 use native.Mathlib.Omega.{arith}
 use lib.Dec.{ltb}
 use lib.ListN.{length, getD, set, take, drop, length-set}
 use borrow.Author.Tests.{ltb-true, ltb-false}
-use lib.Seq.{sets, sets-eq, paste, take-length, getD-set-same, getD-set-other, drop-set-lt, ext-getD, length-take-le, getD-take}
+use lib.Seq.{sets, length-sets, sets-eq, paste, take-length, getD-set-same, getD-set-other, drop-set-lt, ext-getD, length-take-le, getD-take}
 
 -- a block copied to a place, as a run of stores
 pub pasted-sets : (l : List ℕ) (at : ℕ) (b : List ℕ) → at + length b ≤ length l → paste l at b (length b) ≡ sets l at b
@@ -44,6 +44,21 @@ drop-sets [] l at n h = refl
 drop-sets (a ∷ b) l at n h =
     drop-sets b (set l at a) (suc at) n (omega (arith, add-suc at (length b), suc-add at (length b))) ∙
     drop-set-lt n l at a (omega (arith, add-suc at (length b)))
+
+-- what a run of stores leaves is the list l′, where l and l′ agree outside the run and the run's numbers are those of l′
+pub sets-is :
+    (b l l′ : List ℕ) (at : ℕ) → length l ≡ length l′ → at + length b ≤ length l → ((x : ℕ) → x < at → getD l x 0 ≡ getD l′ x 0) →
+    ((x : ℕ) → at + length b ≤ x → getD l x 0 ≡ getD l′ x 0) → ((k : ℕ) → k < length b → getD b k 0 ≡ getD l′ (at + k) 0) → sets l at b ≡ l′
+sets-is b l l′ at n r before behind within =
+    ext-getD 0 (sets l at b) l′ (length-sets l at b ∙ n) (λ x _. by-place x (ltb x at) (ltb x (at + length b)) refl refl)
+  where
+    by-place : (x : ℕ) (s t : Bool) → ltb x at ≡ s → ltb x (at + length b) ≡ t → getD (sets l at b) x 0 ≡ getD l′ x 0
+    by-place x true t e g = let h = ltb-true x at e in sets-before b l at x h ∙ before x h
+    by-place x false true e g =
+        let k : x ≡ at + (x - at) = omega (arith, ltb-false x at e) in
+        let h : x - at < length b = omega (arith, ltb-false x at e, ltb-true x (at + length b) g) in
+        rw k (sets-within b l at (x - at) h r ∙ within (x - at) h)
+    by-place x false false e g = let h = ltb-false x (at + length b) g in sets-behind b l at x h ∙ behind x h
 
 -- block i of a buffer written: its own numbers, and those of another block j
 module _ (w : ℕ) (l : List ℕ) (i : ℕ) (b : List ℕ) where

@@ -9,7 +9,7 @@ use native.Mathlib.Nat.{eq-or-lt-of-le, le-of-suc-le-suc, le-max-left, le-max-ri
 use native.Mathlib.Numerals.{add-one}
 use native.Mathlib.Omega.{arith}
 use Rattle.grid.specs.Fold.{sumTo, maxTo, every}
-use Rattle.grid.proofs.BoolLaws.{and-left, and-right, and-both, passes-or-fails}
+use Rattle.grid.proofs.BoolLaws.{and-left, and-right, and-both, passes-or-fails, fails, not-both}
 
 -- a number below n + 1 is n or below n
 pub below-cases : {P : Type 0} {j n : ℕ} → j < suc n → (j ≡ n → P) → (j < n → P) → P
@@ -106,6 +106,14 @@ module _ (ok : ℕ → Bool) where
   unfolding every
   every-of zero h = refl
   every-of (suc n) h = and-both (every-of n (λ j l. h j (omega arith))) (h n (omega arith))
+
+  -- a loop that has passed the numbers below i: one more, and one that fails
+  pub every-more : {n : ℕ} → every n ok ≡ true → ok n ≡ true → every (n + 1) ok ≡ true
+  unfolding every
+  every-more {n} e p = rw (add-one n) (and-both e p)
+
+  pub every-fails : (n j : ℕ) → j < n → ok j ≡ false → every n ok ≡ false
+  every-fails n j h e = fails (every n ok) (λ t. not-both (every-at n j t h) e)
 
 -- a maximum is 0 or one of its numbers
 pub record Attained (f : ℕ → ℕ) (n m : ℕ) : Type 0 where

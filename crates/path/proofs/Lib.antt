@@ -1,7 +1,6 @@
 pub mod CardTestLaws
 pub mod ClimbLaws
 pub mod EndLaws
-pub mod NumbersLaws
 pub mod PathLaws
 pub mod PushLaws
 pub mod RestLaws

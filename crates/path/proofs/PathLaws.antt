@@ -1,5 +1,4 @@
 -- A path ascends, holds the feeding row of each of its rows, and is the row itself and then the path of its feeding row.
--- Assumes nothing.
 use mathlib.Core.Path.{_≡_, refl, sym, ap, _∙_}
 use mathlib.Core.Bool.{Bool, true, false, _&&_, _||_, or-false, or-true}
 use mathlib.Core.Logic.{⊎-elim}
@@ -9,6 +8,7 @@ use native.Mathlib.Omega.{arith}
 use lib.Dec.{eqb, ltb}
 use borrow.Author.Tests.{eqb-true, eqb-false, eq-eqb, ne-eqb, lt-ltb, le-ltb, ltb-true}
 use Rattle.grid.proofs.BoolLaws.{passes-or-fails, fails}
+use Rattle.layout.specs.Fields.{atFeeder}
 use Rattle.layout.specs.List.{rows, field}
 use Rattle.rows.specs.InRange.{Feeds}
 use Rattle.rows.proofs.InRangeLaws.{feeder-above, feeder-of-last}
@@ -16,25 +16,25 @@ use Rattle.path.specs.Path.{pathFrom, pathOf, aboveOf, has, onPath}
 
 -- a row that is fed stands below its feeder, which is a row; only the last row is fed by the source
 pub record Climbs (l : List ℕ) (i : ℕ) : Type 0 where
-  pub above : i < field l i 1 - 1
-  pub within : field l i 1 - 1 < rows l
+  pub above : i < field l i atFeeder - 1
+  pub within : field l i atFeeder - 1 < rows l
 
-module _ (l : List ℕ) (i f : ℕ) (e : f ≡ field l i 1) where
+module _ (l : List ℕ) (i f : ℕ) (e : f ≡ field l i atFeeder) where
   pub above-source : f ≡ 0 → rows l ≡ aboveOf l i
   unfolding aboveOf
-  above-source z = rw (eq-eqb (field l i 1) 0 (sym e ∙ z))
+  above-source z = rw (eq-eqb (field l i atFeeder) 0 (sym e ∙ z))
 
   pub above-fed : (f ≡ 0 → ⊥) → f - 1 ≡ aboveOf l i
   unfolding aboveOf
-  above-fed n = rw (ne-eqb (field l i 1) 0 (λ z. n (e ∙ z))) (ap (λ (x : ℕ). x - 1) e)
+  above-fed n = rw (ne-eqb (field l i atFeeder) 0 (λ z. n (e ∙ z))) (ap (λ (x : ℕ). x - 1) e)
 
 module _ (l : List ℕ) (b : Feeds l) where
-  pub fed-climbs : (i : ℕ) → i < rows l → (field l i 1 ≡ 0 → ⊥) → Climbs l i
+  pub fed-climbs : (i : ℕ) → i < rows l → (field l i atFeeder ≡ 0 → ⊥) → Climbs l i
   fed-climbs i h n =
       let f = feeder-above l b i h (λ e. n (feeder-of-last l b i h e)) in
       record { above = omega arith; within = omega arith }
 
-  pub source-last : (i : ℕ) → i < rows l → field l i 1 ≡ 0 → i + 1 ≡ rows l
+  pub source-last : (i : ℕ) → i < rows l → field l i atFeeder ≡ 0 → i + 1 ≡ rows l
   source-last i h z =
       ⊎-elim (λ e. eqb-true (i + 1) (rows l) e)
       (λ e. absurd (omega (arith, feeder-above l b i h (eqb-false (i + 1) (rows l) e) .0)))
@@ -49,35 +49,35 @@ module _ (l : List ℕ) (b : Feeds l) where
       ⊎-elim
       (λ e. rw e)
       (λ e.
-      let k = fed-climbs i h (eqb-false (field l i 1) 0 e) in
-      rw e (ap (λ (t : List ℕ). i ∷ t) (fuel n m (field l i 1 - 1) (k .within) (omega (arith, k .above)) (omega (arith, k .above)))))
-      (passes-or-fails (eqb (field l i 1) 0))
+      let k = fed-climbs i h (eqb-false (field l i atFeeder) 0 e) in
+      rw e (ap (λ (t : List ℕ). i ∷ t) (fuel n m (field l i atFeeder - 1) (k .within) (omega (arith, k .above)) (omega (arith, k .above)))))
+      (passes-or-fails (eqb (field l i atFeeder) 0))
 
   -- the row itself, and then the path of its feeding row
-  pub path-source : (i : ℕ) → i < rows l → field l i 1 ≡ 0 → pathOf l i ≡ i ∷ []
+  pub path-source : (i : ℕ) → i < rows l → field l i atFeeder ≡ 0 → pathOf l i ≡ i ∷ []
   unfolding pathOf pathFrom
   path-source i h z =
-      fuel (rows l) (suc (rows l)) i h (omega arith) (omega arith) ∙ rw (eq-eqb (field l i 1) 0 z)
+      fuel (rows l) (suc (rows l)) i h (omega arith) (omega arith) ∙ rw (eq-eqb (field l i atFeeder) 0 z)
 
-  pub path-fed : (i : ℕ) → i < rows l → (field l i 1 ≡ 0 → ⊥) → pathOf l i ≡ i ∷ pathOf l (field l i 1 - 1)
+  pub path-fed : (i : ℕ) → i < rows l → (field l i atFeeder ≡ 0 → ⊥) → pathOf l i ≡ i ∷ pathOf l (field l i atFeeder - 1)
   unfolding pathOf pathFrom
   path-fed i h n =
-      fuel (rows l) (suc (rows l)) i h (omega arith) (omega arith) ∙ rw (ne-eqb (field l i 1) 0 n)
+      fuel (rows l) (suc (rows l)) i h (omega arith) (omega arith) ∙ rw (ne-eqb (field l i atFeeder) 0 n)
 
-  pub on-source : (i j : ℕ) → i < rows l → field l i 1 ≡ 0 → onPath l i j ≡ eqb j i
+  pub on-source : (i j : ℕ) → i < rows l → field l i atFeeder ≡ 0 → onPath l i j ≡ eqb j i
   unfolding onPath has
   on-source i j h z = rw (path-source i h z) (or-false (eqb j i))
 
-  pub on-fed : (i j : ℕ) → i < rows l → (field l i 1 ≡ 0 → ⊥) → onPath l i j ≡ (eqb j i || onPath l (field l i 1 - 1) j)
+  pub on-fed : (i j : ℕ) → i < rows l → (field l i atFeeder ≡ 0 → ⊥) → onPath l i j ≡ (eqb j i || onPath l (field l i atFeeder - 1) j)
   unfolding onPath has
   on-fed i j h n = rw (path-fed i h n)
 
   pub on-self : (i : ℕ) → i < rows l → onPath l i i ≡ true
   on-self i h =
       ⊎-elim
-      (λ e. on-source i i h (eqb-true (field l i 1) 0 e) ∙ eq-eqb i i refl)
-      (λ e. on-fed i i h (eqb-false (field l i 1) 0 e) ∙ rw (eq-eqb i i refl))
-      (passes-or-fails (eqb (field l i 1) 0))
+      (λ e. on-source i i h (eqb-true (field l i atFeeder) 0 e) ∙ eq-eqb i i refl)
+      (λ e. on-fed i i h (eqb-false (field l i atFeeder) 0 e) ∙ rw (eq-eqb i i refl))
+      (passes-or-fails (eqb (field l i atFeeder) 0))
 
   or-cases : {P : Type 0} (x y : Bool) → (x || y) ≡ true → (x ≡ true → P) → (y ≡ true → P) → P
   or-cases true y e f g = f refl
@@ -85,20 +85,20 @@ module _ (l : List ℕ) (b : Feeds l) where
 
   -- by induction on the rows left above
   module _ (P : ℕ → ℕ → Type 0) (here : (i : ℕ) → i < rows l → P i i)
-      (up : (i j : ℕ) → i < rows l → Climbs l i → onPath l (field l i 1 - 1) j ≡ true → P (field l i 1 - 1) j → P i j) where
+      (up : (i j : ℕ) → i < rows l → Climbs l i → onPath l (field l i atFeeder - 1) j ≡ true → P (field l i atFeeder - 1) j → P i j) where
     climbing : (n i j : ℕ) → i < rows l → rows l ≤ i + n → onPath l i j ≡ true → P i j
     climbing zero i j h x o = absurd (omega arith)
     climbing (suc n) i j h x o =
         ⊎-elim
         (λ e.
-        let q : i ≡ j = sym (eqb-true j i (sym (on-source i j h (eqb-true (field l i 1) 0 e)) ∙ o)) in
+        let q : i ≡ j = sym (eqb-true j i (sym (on-source i j h (eqb-true (field l i atFeeder) 0 e)) ∙ o)) in
         rw (← q) (here i h))
         (λ e.
-        let k = fed-climbs i h (eqb-false (field l i 1) 0 e) in
-        or-cases (eqb j i) (onPath l (field l i 1 - 1) j) (sym (on-fed i j h (eqb-false (field l i 1) 0 e)) ∙ o)
+        let k = fed-climbs i h (eqb-false (field l i atFeeder) 0 e) in
+        or-cases (eqb j i) (onPath l (field l i atFeeder - 1) j) (sym (on-fed i j h (eqb-false (field l i atFeeder) 0 e)) ∙ o)
         (λ g. let q : i ≡ j = sym (eqb-true j i g) in rw (← q) (here i h))
-        (λ g. up i j h k g (climbing n (field l i 1 - 1) j (k .within) (omega (arith, k .above)) g)))
-        (passes-or-fails (eqb (field l i 1) 0))
+        (λ g. up i j h k g (climbing n (field l i atFeeder - 1) j (k .within) (omega (arith, k .above)) g)))
+        (passes-or-fails (eqb (field l i atFeeder) 0))
 
     on-path : (i j : ℕ) → i < rows l → onPath l i j ≡ true → P i j
     on-path i j h o = climbing (rows l) i j h (omega arith) o
@@ -110,11 +110,11 @@ module _ (l : List ℕ) (b : Feeds l) where
   on-within = on-path (λ i j. j < rows l) (λ i h. h) (λ i j h k g p. p)
 
   -- a path holds the feeding row of each of its rows
-  pub on-feeder : (i j : ℕ) → i < rows l → onPath l i j ≡ true → (field l j 1 ≡ 0 → ⊥) → onPath l i (field l j 1 - 1) ≡ true
+  pub on-feeder : (i j : ℕ) → i < rows l → onPath l i j ≡ true → (field l j atFeeder ≡ 0 → ⊥) → onPath l i (field l j atFeeder - 1) ≡ true
   on-feeder =
-      on-path (λ i j. (field l j 1 ≡ 0 → ⊥) → onPath l i (field l j 1 - 1) ≡ true)
-      (λ i h n. on-fed i (field l i 1 - 1) h n ∙ rw (on-self (field l i 1 - 1) (fed-climbs i h n .within)) (or-true (eqb (field l i 1 - 1) i)))
-      (λ i j h k g p n. on-fed i (field l j 1 - 1) h (λ z. omega (arith, k .above)) ∙ rw (p n) (or-true (eqb (field l j 1 - 1) i)))
+      on-path (λ i j. (field l j atFeeder ≡ 0 → ⊥) → onPath l i (field l j atFeeder - 1) ≡ true)
+      (λ i h n. on-fed i (field l i atFeeder - 1) h n ∙ rw (on-self (field l i atFeeder - 1) (fed-climbs i h n .within)) (or-true (eqb (field l i atFeeder - 1) i)))
+      (λ i j h k g p n. on-fed i (field l j atFeeder - 1) h (λ z. omega (arith, k .above)) ∙ rw (p n) (or-true (eqb (field l j atFeeder - 1) i)))
 
   pub off-below : (i j : ℕ) → i < rows l → j < i → onPath l i j ≡ false
   off-below i j h b = fails (onPath l i j) (λ o. omega (arith, on-above i j h o))
@@ -132,11 +132,11 @@ module _ (l : List ℕ) (b : Feeds l) where
   on-next i j h g =
       ⊎-elim
       (λ e.
-      on-source i j h (eqb-true (field l i 1) 0 e) ∙ ne-eqb j i (λ q. omega arith) ∙ sym (rw (e, le-ltb (rows l) (rows l) (omega arith))))
+      on-source i j h (eqb-true (field l i atFeeder) 0 e) ∙ ne-eqb j i (λ q. omega arith) ∙ sym (rw (e, le-ltb (rows l) (rows l) (omega arith))))
       (λ e.
-      let n = eqb-false (field l i 1) 0 e in
-      on-fed i j h n ∙ rw (e, ne-eqb j i (λ q. omega arith)) (on-from (field l i 1 - 1) j (fed-climbs i h n .within)))
-      (passes-or-fails (eqb (field l i 1) 0))
+      let n = eqb-false (field l i atFeeder) 0 e in
+      on-fed i j h n ∙ rw (e, ne-eqb j i (λ q. omega arith)) (on-from (field l i atFeeder - 1) j (fed-climbs i h n .within)))
+      (passes-or-fails (eqb (field l i atFeeder) 0))
 
   pub off-before : (x j : ℕ) → j < x → onFrom x j ≡ false
   off-before x j b =
@@ -145,4 +145,4 @@ module _ (l : List ℕ) (b : Feeds l) where
   pub above-above : (i : ℕ) → i < rows l → i < aboveOf l i
   unfolding aboveOf
   above-above i h =
-      ⊎-elim (λ e. rw e h) (λ e. rw e (fed-climbs i h (eqb-false (field l i 1) 0 e) .above)) (passes-or-fails (eqb (field l i 1) 0))
+      ⊎-elim (λ e. rw e h) (λ e. rw e (fed-climbs i h (eqb-false (field l i atFeeder) 0 e) .above)) (passes-or-fails (eqb (field l i atFeeder) 0))

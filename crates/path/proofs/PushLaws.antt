@@ -1,37 +1,37 @@
--- A row that is counted as done with the numbers found on the card, and what it asks added to the sums, keeps the sums true.
--- Assumes nothing.
+-- A row that is counted as done with the settings found on the card, and what it asks added to the sums, keeps the sums true.
 use mathlib.Core.Path.{_≡_, refl, _∙_, subst}
-use mathlib.Core.Bool.{Bool, false, _||_}
+use mathlib.Core.Bool.{Bool, true, false, _||_}
 use mathlib.Core.List.{List}
-use Prim.Native.Nat.{ℕ, _≤_, _<_}
+use Prim.Native.Nat.{ℕ, _-_, _≤_, _<_}
+use native.Mathlib.Omega.{arith}
 use lib.Dec.{eqb}
 use Rattle.grid.proofs.FoldLaws.{sumTo-same, maxTo-same}
+use Rattle.layout.specs.Card.{cardRowAt}
 use Rattle.layout.specs.List.{rows, rowAt}
-use Rattle.settle.specs.declared.Outcome.{Outcome}
-use Rattle.settle.specs.declared.Cutoff.the-variants.{Fitted}
-use Rattle.settle.specs.Settle.{printed}
-use Rattle.work.specs.Card.{pickupIn, delayIn, cutoffIn}
+use Rattle.layout.proofs.CardLaws.{putCardRow-stands}
+use Rattle.rows.proofs.InRangeLaws.{row-bounded}
+use Rattle.settle.specs.Fed.{CardBounded}
 use Rattle.work.specs.Ready.{PushReady}
 use Rattle.work.specs.Sums.{pushed}
-use Rattle.work.proofs.CardLaws.{same-fed}
 use Rattle.work.specs.Working.{Working}
-use Rattle.work.proofs.WorkingLaws.{work-ready, work-next}
-use Rattle.path.proofs.NumbersLaws.{row-stands}
+use Rattle.work.proofs.SumsLaws.{same-fed}
+use Rattle.work.proofs.WorkingLaws.{has-feeder, work-next}
 
--- the same rows done
-pub working-same : (l : List ℕ) (done done′ : ℕ → Bool) (c s : List ℕ) → ((j : ℕ) → j < rows l → done j ≡ done′ j) → Working l done c s → Working l done′ c s
-working-same l done done′ c s e w =
+-- the same rows done, and no more that matter
+pub working-same :
+    (l : List ℕ) (done done′ matters matters′ : ℕ → Bool) (c s : List ℕ) → ((j : ℕ) → j < rows l → done j ≡ done′ j) →
+    ((j : ℕ) → matters′ j ≡ true → matters j ≡ true) → Working l done matters c s → Working l done′ matters′ c s
+working-same l done done′ matters matters′ c s e f w =
     record {
       rows-to = w .rows-to;
       in-range = w .in-range;
       feeds = w .feeds;
       card-room = w .card-room;
       sums-room = w .sums-room;
-      pickups-to = λ j b g. w .pickups-to j b (e j b ∙ g);
-      delays-to = λ j b g. w .delays-to j b (e j b ∙ g);
+      settings-to = λ j b g. w .settings-to j b (e j b ∙ g);
       summed =
-          λ k b.
-          w .summed k b ∙
+          λ k b m.
+          w .summed k b (f k m) ∙
           same-fed
           (sumTo-same _ _ (rows l) (λ j h. rw (e j h)))
           (maxTo-same _ _ (rows l) (λ j h. rw (e j h)))
@@ -39,22 +39,17 @@ working-same l done done′ c s e w =
           (maxTo-same _ _ (rows l) (λ j h. rw (e j h)));
     }
 
-module _ (l : List ℕ) (done : ℕ → Bool) (c s : List ℕ) (w : Working l done c s) (i : ℕ) (h : i < rows l)
-    (pickup-to : pickupIn c i ≤ 100000000) (delay-to : delayIn c i ≤ 100000) where
-  pub push-ready : PushReady (rowAt l i) (pickupIn c i) (delayIn c i) s
-  push-ready =
-      let a = work-ready l done c s w i h in
-      record { bounded = a .bounded; pickup-to = pickup-to; delay-to = delay-to; has-place = a .has-place; load-fits = a .load-fits }
+module _ (l : List ℕ) (done matters : ℕ → Bool) (c s : List ℕ) (w : Working l done matters c s) (i : ℕ) (h : i < rows l)
+    (to : CardBounded (cardRowAt c i)) where
+  pub push-ready : (1 ≤ rowAt l i .feeder → matters (rowAt l i .feeder - 1) ≡ true) → PushReady (rowAt l i) (cardRowAt c i) s
+  push-ready f =
+      record { bounded = row-bounded l (w .in-range) i h; settings = to; feeder = has-feeder l done matters c s w i h f }
 
-  -- the numbers found are a row's outcome that is written where it stands
-  found : Outcome
-  found = record { pickup = pickupIn c i; delay = delayIn c i; cutoff = Fitted (cutoffIn c i) }
-
+  -- the settings found are those that stand there
   pub push-next :
       done i ≡ false → (done′ : ℕ → Bool) → ((j : ℕ) → done′ j ≡ (done j || eqb j i)) →
-      Working l done′ c (pushed (rowAt l i) (pickupIn c i) (delayIn c i) s)
-  unfolding found printed
+      Working l done′ matters c (pushed (rowAt l i) (cardRowAt c i) s)
   push-next new done′ next =
-      subst (λ (x : List ℕ). Working l done′ x (pushed (rowAt l i) (pickupIn c i) (delayIn c i) s))
-      (row-stands c i found refl refl refl)
-      (work-next l done c s w i h new done′ next found (pickup-to, delay-to))
+      subst (λ (x : List ℕ). Working l done′ matters x (pushed (rowAt l i) (cardRowAt c i) s))
+      (putCardRow-stands c i (omega (arith, w .card-room)))
+      (work-next l done matters c s w i h new done′ next matters (λ j m. m) (cardRowAt c i) to)

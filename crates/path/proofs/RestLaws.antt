@@ -1,5 +1,4 @@
 -- The pass over the rows off a path: the rows below j that are off the path are done, and `next` is the next row of the path.
--- Assumes nothing.
 use mathlib.Core.Path.{_≡_, refl, sym, ap, _∙_}
 use mathlib.Core.Bool.{Bool, true, false, not, _&&_, _||_, or-false, and-true, and-false}
 use mathlib.Core.Logic.{⊎-elim}
@@ -10,19 +9,24 @@ use lib.Dec.{ltb, eqb}
 use lib.ListN.{length}
 use borrow.Author.Tests.{lt-ltb, le-ltb, ltb-true, eqb-true, eqb-false, eq-eqb}
 use Rattle.grid.proofs.BoolLaws.{passes-or-fails, same-test}
+use Rattle.layout.specs.Card.{cardRowAt}
 use Rattle.layout.specs.List.{rows, rowAt}
 use Rattle.rows.specs.InRange.{Feeds}
 use Rattle.rows.proofs.InRangeLaws.{passed-feeds}
-use Rattle.work.specs.Card.{pickupIn, delayIn}
+use Rattle.settle.specs.Fed.{CardBounded}
 use Rattle.work.specs.Sums.{pushed}
 use Rattle.work.proofs.StepLaws.{pushed-length}
 use Rattle.work.specs.Working.{Working}
-use Rattle.whole.proofs.AllLaws.{all-start}
+use Rattle.work.proofs.StartLaws.{work-start}
 use Rattle.path.specs.Path.{aboveOf, onPath}
 use Rattle.path.specs.Ready.{FoundReady, RestReady}
 use Rattle.path.proofs.PathLaws.{onFrom, on-from, on-next, on-self, off-before, above-above}
 use Rattle.path.proofs.PushLaws.{working-same, push-ready, push-next}
 use Rattle.path.proofs.CardTestLaws.{card-passed}
+
+-- what every row asks is added, whether it is of use on the path or not
+abbrev every-row : ℕ → Bool
+every-row k = true
 
 -- row k is below j and off the path of row i
 abbrev pub rest : List ℕ → ℕ → ℕ → ℕ → Bool
@@ -30,14 +34,14 @@ rest l i j k = ltb k j && not (onPath l i k)
 
 pub record Resting (l : List ℕ) (i : ℕ) (c s₀ s : List ℕ) (next j : ℕ) : Type 0 where
   pub within : j ≤ rows l
-  pub working : Working l (rest l i j) c s
+  pub working : Working l (rest l i j) every-row c s
   pub not-passed : j ≤ next
   pub left : (k : ℕ) → j ≤ k → onPath l i k ≡ onFrom l (working .feeds) next k
   pub sums-length : length s ≡ length s₀
 
 module _ (l : List ℕ) (i : ℕ) (c s₀ : List ℕ) (a : RestReady l i c s₀) where
   feeding : Feeds l
-  feeding = passed-feeds l (a .path .rows-tested)
+  feeding = passed-feeds l (a .unworked .tested)
 
   pub rest-start : Resting l i c s₀ s₀ i 0
   unfolding feeding
@@ -45,19 +49,9 @@ module _ (l : List ℕ) (i : ℕ) (c s₀ : List ℕ) (a : RestReady l i c s₀)
       record {
         within = omega arith;
         working =
-            working-same l (λ k. ltb k 0) (rest l i 0) c s₀
-            (λ k _. rw (le-ltb k 0 (omega arith)))
-            (all-start l (rows l) c s₀
-            (record {
-              all-rows = refl;
-              rows-to = a .path .rework .rows-to;
-              tested = a .path .rows-tested;
-              card-room = a .path .rework .card-room;
-              sums-room = a .sums-room;
-              sums-clear = a .sums-clear;
-            }) .working);
+            work-start l c s₀ (a .unworked) (rest l i 0) every-row (λ k. rw (le-ltb k 0 (omega arith)));
         not-passed = omega arith;
-        left = λ k _. on-from l feeding i k (a .path .rework .is-row);
+        left = λ k _. on-from l feeding i k (a .is-row);
         sums-length = refl;
       }
 
@@ -83,7 +77,9 @@ module _ (l : List ℕ) (i : ℕ) (c s₀ : List ℕ) (a : RestReady l i c s₀)
         rw es
         (record {
           within = omega arith;
-          working = working-same l (rest l i j) (rest l i (j + 1)) c s (λ k _. sym (rest-next k ∙ rw (on, and-false (eqb k j), or-false (rest l i j k)))) (v .working);
+          working =
+              working-same l (rest l i j) (rest l i (j + 1)) every-row every-row c s
+              (λ k _. sym (rest-next k ∙ rw (on, and-false (eqb k j), or-false (rest l i j k)))) (λ k m. m) (v .working);
           not-passed = omega (arith, above-above l (v .working .feeds) j h);
           left = λ k b. v .left k (omega arith) ∙ rw (← e, q) (sym (on-from l (v .working .feeds) j k h) ∙ on-next l (v .working .feeds) j k h (omega arith));
           sums-length = v .sums-length;
@@ -94,29 +90,31 @@ module _ (l : List ℕ) (i : ℕ) (c s₀ : List ℕ) (a : RestReady l i c s₀)
       off : onPath l i j ≡ false
       off = v .left j (omega arith) ∙ off-before l (v .working .feeds) next j (omega (arith, v .not-passed))
 
+      found : CardBounded (cardRowAt c j)
+      found = let f = card-passed l c (a .card-tested) j h in record { pickup-to = f .pickup-to; delay-to = f .delay-to }
+
       pub rest-ready : FoundReady l j c s
       rest-ready =
-          let f = card-passed l c (a .path .card-tested) j h in
           record {
             in-list = omega arith;
-            in-card = omega (arith, a .path .rework .card-room);
-            push = push-ready l (rest l i j) c s (v .working) j h (f .pickup-to) (f .delay-to);
+            in-card = omega (arith, a .unworked .card-room);
+            push = push-ready l (rest l i j) every-row c s (v .working) j h found (λ _. refl);
           }
 
-      pub rest-push : (s′ : List ℕ) (next′ : ℕ) → s′ ≡ pushed (rowAt l j) (pickupIn c j) (delayIn c j) s → next′ ≡ next → Resting l i c s₀ s′ next′ (j + 1)
+      pub rest-push : (s′ : List ℕ) (next′ : ℕ) → s′ ≡ pushed (rowAt l j) (cardRowAt c j) s → next′ ≡ next → Resting l i c s₀ s′ next′ (j + 1)
       rest-push s′ next′ e en =
-          let f = card-passed l c (a .path .card-tested) j h in
           rw (e, en)
           (record {
             within = omega arith;
             working =
-                push-next l (rest l i j) c s (v .working) j h (f .pickup-to) (f .delay-to)
+                push-next l (rest l i j) every-row c s (v .working) j h found
                 (rw (le-ltb j j (omega arith))) (rest l i (j + 1)) (λ k. rest-next k ∙ rw (off, and-true (eqb k j)));
             not-passed = omega (arith, v .not-passed);
             left = λ k b. v .left k (omega arith);
-            sums-length = pushed-length (rowAt l j) (pickupIn c j) (delayIn c j) s ∙ v .sums-length;
+            sums-length = pushed-length (rowAt l j) (cardRowAt c j) s ∙ v .sums-length;
           })
 
   -- all rows are passed
-  pub rest-end : (s : List ℕ) (next j : ℕ) → Resting l i c s₀ s next j → rows l ≤ j → Working l (λ k. not (onPath l i k)) c s
-  rest-end s next j v h = working-same l (rest l i j) (λ k. not (onPath l i k)) c s (λ k b. rw (lt-ltb k j (omega arith))) (v .working)
+  pub rest-end : (s : List ℕ) (next j : ℕ) → Resting l i c s₀ s next j → rows l ≤ j → Working l (λ k. not (onPath l i k)) (onPath l i) c s
+  rest-end s next j v h =
+      working-same l (rest l i j) (λ k. not (onPath l i k)) every-row (onPath l i) c s (λ k b. rw (lt-ltb k j (omega arith))) (λ k _. refl) (v .working)

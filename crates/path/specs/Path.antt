@@ -3,14 +3,15 @@ use mathlib.Core.Bool.{Bool, false, cond, _||_}
 use mathlib.Core.List.{List, [], _∷_}
 use Prim.Native.Nat.{ℕ, zero, suc, _-_}
 use lib.Dec.{eqb}
+use Rattle.layout.specs.Fields.{atFeeder}
 use Rattle.layout.specs.List.{rows, field}
 
 -- the path from row i, of at most n rows
 unfoldable pub pathFrom : List ℕ → ℕ → ℕ → List ℕ
 pathFrom l zero i = []
 pathFrom l (suc n) i =
-    let above = pathFrom l n (field l i 1 - 1) in
-    i ∷ cond (eqb (field l i 1) 0) [] above
+    let above = pathFrom l n (field l i atFeeder - 1) in
+    i ∷ cond (eqb (field l i atFeeder) 0) [] above
 
 -- feeding rows have greater numbers, so a path has no more rows than the list
 unfoldable pub pathOf : List ℕ → ℕ → List ℕ
@@ -18,7 +19,7 @@ pathOf l i = pathFrom l (rows l) i
 
 -- the row that feeds row i; the number of rows where none does
 unfoldable pub aboveOf : List ℕ → ℕ → ℕ
-aboveOf l i = cond (eqb (field l i 1) 0) (rows l) (field l i 1 - 1)
+aboveOf l i = cond (eqb (field l i atFeeder) 0) (rows l) (field l i atFeeder - 1)
 
 unfoldable pub has : List ℕ → ℕ → Bool
 has [] j = false

@@ -3,37 +3,29 @@ use mathlib.Core.Path.{_≡_}
 use mathlib.Core.Bool.{not}
 use mathlib.Core.List.{List}
 use Prim.Native.Nat.{ℕ, _+_, _*_, _<_, _≤_}
-use lib.ListN.{length, getD, set}
-use Rattle.layout.specs.Counts.{fieldCount, columnCount, rowsMost}
+use lib.ListN.{length}
 use Rattle.answers.specs.declared.Tested.{Tested}
 use Rattle.answers.specs.declared.Tested.the-variants.{Passed, Refused}
+use Rattle.layout.specs.Card.{cardRowAt}
+use Rattle.layout.specs.Counts.{fieldCount, columnCount, rowsMost}
 use Rattle.layout.specs.List.{rows, rowAt}
 use Rattle.rows.specs.Tests.{rowsTest}
-use Rattle.work.specs.Card.{pickupIn, delayIn, cutoffIn}
 use Rattle.work.specs.Ready.{PushReady}
 use Rattle.work.specs.WorkOut.{Worked, finished, refused}
-use Rattle.work.specs.Working.{Working}
-use Rattle.path.specs.declared.Numbers.{Numbers}
+use Rattle.work.specs.Working.{Unworked, Working}
 use Rattle.path.specs.Path.{onPath}
 use Rattle.path.specs.CardTest.{cardTest}
 
--- the three numbers of card row i
-abbrev pub numbersAt : List ℕ → ℕ → Numbers
-numbersAt c i = record { pickup = pickupIn c i; delay = delayIn c i; cutoff = cutoffIn c i }
-
-unfoldable pub putNumbers : List ℕ → ℕ → Numbers → List ℕ
-putNumbers c i k = set (set (set c (i * columnCount) (k .pickup)) (i * columnCount + 1) (k .delay)) (i * columnCount + 2) (k .cutoff)
-
--- every row off the path of row i is done, and none on it
+-- every row off the path of row i is done and none on it, and the sums hold what is asked of the rows on it
 pub record ClimbReady (l : List ℕ) (i : ℕ) (c s : List ℕ) : Type 0 where
   pub is-row : i < rows l
-  pub working : Working l (λ j. not (onPath l i j)) c s
+  pub working : Working l (λ j. not (onPath l i j)) (onPath l i) c s
 
 -- what row j asks with the numbers found on the card can be added
 pub record FoundReady (l : List ℕ) (j : ℕ) (c s : List ℕ) : Type 0 where
   pub in-list : j * fieldCount + fieldCount ≤ length l
   pub in-card : j * columnCount + columnCount ≤ length c
-  pub push : PushReady (rowAt l j) (pickupIn c j) (delayIn c j) s
+  pub push : PushReady (rowAt l j) (cardRowAt c j) s
 
 -- row i of a list of the right size, with room on the card
 pub record ReworkReady (l : List ℕ) (i : ℕ) (c : List ℕ) : Type 0 where
@@ -49,9 +41,9 @@ pub record PathReady (l : List ℕ) (i : ℕ) (c : List ℕ) : Type 0 where
 
 -- the same, with sums that are all 0
 pub record RestReady (l : List ℕ) (i : ℕ) (c s : List ℕ) : Type 0 where
-  pub path : PathReady l i c
-  pub sums-room : rows l * 4 ≤ length s
-  pub sums-clear : (x : ℕ) → getD s x 0 ≡ 0
+  pub is-row : i < rows l
+  pub card-tested : cardTest l c ≡ Passed
+  pub unworked : Unworked l c s
 
 -- the answer of a working out that began on the card c, and the card after it
 unfoldable pub testedOf : Worked → Tested

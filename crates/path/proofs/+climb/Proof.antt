@@ -1,5 +1,4 @@
 -- `climb` works out the path of row i: the row itself, then the path of its feeding row. The measure is the rows left above.
--- Assumes nothing.
 use mathlib.Core.Path.{subst}
 use Prim.Native.Nat.{_-_, ℕ, _<_}
 use native.Mathlib.Omega.{arith}
@@ -13,8 +12,8 @@ use Rattle.path.proofs.ClimbLaws.{climb-works, climb-refused, climb-sou
 use Rattle.path.proofs.climb.Reads as climb
 use Rattle.path.proofs.climb.Kinds as climb-kinds
 use Rattle.path.proofs.+climb.Lts-climb as climb-lts
-use Rattle.path.proofs.numbers_at.Reads as numbers-at-reads
-use Rattle.path.proofs.put_numbers.Reads as put-numbers-reads
+use Rattle.layout.proofs.card_row_at.Reads as card-row-at-reads
+use Rattle.layout.proofs.put_card_row.Reads as put-card-row-reads
 use Rattle.path.proofs.+climb.{statement}
 use Rattle.path.proofs.+climb.Tie.{close}
 
@@ -29,20 +28,20 @@ climb-below t = and 3 climb-kinds.ps (falls 3 climb-kinds.ps _<_ μ-climb t) cli
 
 abbrev callees : ℕ → climb-lts.Claims
 callees t = (
-  numbers-at-reads.Asked,
-  numbers-at-reads.Learnt,
+  card-row-at-reads.Asked,
+  card-row-at-reads.Learnt,
   work-row-reads.Asked,
   work-row-reads.Learnt,
   field-at-reads.Asked,
   field-at-reads.Learnt,
   climb-below t,
   climb.Post,
-  put-numbers-reads.Asked,
-  put-numbers-reads.Learnt,
+  put-card-row-reads.Asked,
+  put-card-row-reads.Learnt,
 )
 
-climb-numbers-at-requires : (t : ℕ) → climb-lts.Need-numbers-at-requires (callees t) (climb-at t) climb.Post
-climb-numbers-at-requires t c κs =
+climb-card-row-at-requires : (t : ℕ) → climb-lts.Need-card-row-at-requires (callees t) (climb-at t) climb.Post
+climb-card-row-at-requires t c κs =
     climb-works _ _ _ _ (c .before .before .before .before .pre .1) .in-card
 
 climb-work-row-requires : (t : ℕ) → climb-lts.Need-work-row-requires (callees t) (climb-at t) climb.Post
@@ -93,8 +92,8 @@ climb-climb-requires t c κs = (
 climb-enum-known-rest : (t : ℕ) → climb-lts.Need-enum-known-rest (callees t) (climb-at t) climb.Post
 climb-enum-known-rest t c = search needs
 
-climb-put-numbers-requires : (t : ℕ) → climb-lts.Need-put-numbers-requires (callees t) (climb-at t) climb.Post
-climb-put-numbers-requires t c κs =
+climb-put-card-row-requires : (t : ℕ) → climb-lts.Need-put-card-row-requires (callees t) (climb-at t) climb.Post
+climb-put-card-row-requires t c κs =
     let k = climb-works _ _ _ _ (c .before .before .before .before .before .before .before .before .before .before .before .before .before .before .before .before .before .before .before .before .before .before .before .before .before .before .before .pre .1) in omega (arith, k .in-card, c .before .before .before .before .before .before .before .before .before .before .before .before .before .before .before .before .before .before .before .work-row .kept .1 .1 .0, c .before .before .before .before .before .before .before .before .climb .kept .1 .1 .0)
 
 climb-same-length-5 : (t : ℕ) → climb-lts.Need-same-length-5 (callees t) (climb-at t) climb.Post
@@ -106,7 +105,7 @@ climb-same-length-6 t c = search needs
 climb-returns-3 : (t : ℕ) → climb-lts.Need-returns-3 (callees t) (climb-at t) climb.Post
 climb-returns-3 t c =
     climb-back _ _ _ _ (c .before .before .before .before .before .before .before .before .before .before .before .before .before .before .before .before .before .before .before .before .before .before .before .before .before .before .before .before .before .before .pre .1) _ _ _ (c .before .before .before .before .before .before .before .before .before .before .before .before .before .before .before .before .before .before .before .before .before .before .work-row .ensures) (c .before .before .before .before .before .before .before .before .before .before .before .before .before .before .before .before .enum-told .given .1) _ (c .before .before .before .before .before .before .before .before .before .before .before .before .before .before .before .field-at .ensures) (c .before .before .before .before .before .before .before .before .before .before .before .before .before .before .if1 .left)
-    _ _ _ _ _ (c .before .before .before .before .before .before .before .before .before .before .before .climb .ensures) (c .before .before .before .before .before .rest .given .1) (c .before .before .before .before .before .before .before .before .before .before .before .before .before .before .before .before .before .before .before .before .before .before .before .before .before .numbers-at .ensures) (c .before .before .put-numbers .ensures)
+    _ _ _ _ _ (c .before .before .before .before .before .before .before .before .before .before .before .climb .ensures) (c .before .before .before .before .before .rest .given .1) (c .before .before .before .before .before .before .before .before .before .before .before .before .before .before .before .before .before .before .before .before .before .before .before .before .before .card-row-at .ensures) (c .before .before .put-card-row .ensures)
 
 climb-enum-told-2 : (t : ℕ) → climb-lts.Need-enum-told-2 (callees t) (climb-at t) climb.Post
 climb-enum-told-2 t c = search needs
@@ -126,7 +125,7 @@ pub +climb-spec : {M : Type 1} → statement M
 +climb-spec = close μ-climb λ t. climb-lts.spec (callees t)
     (climb-at t)
     climb.Post
-    (climb-numbers-at-requires t)
+    (climb-card-row-at-requires t)
     (climb-work-row-requires t)
     (climb-enum-known-own t)
     (climb-same-length t)
@@ -140,7 +139,7 @@ pub +climb-spec : {M : Type 1} → statement M
     (climb-sub-climb t)
     (climb-climb-requires t)
     (climb-enum-known-rest t)
-    (climb-put-numbers-requires t)
+    (climb-put-card-row-requires t)
     (climb-same-length-5 t)
     (climb-same-length-6 t)
     (climb-returns-3 t)

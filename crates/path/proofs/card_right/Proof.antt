@@ -1,28 +1,65 @@
--- `card_right` tests one card row against CARD's ranges, number by number. Assumes nothing.
-use mathlib.Core.Path.{ap}
+-- `card_right` tests one card row against CARD's bounds: the columns that the loop has passed are right.
 use native.Mathlib.Omega.{arith}
-use borrow.Author.Needs.{needs}
-use Rattle.path.specs.declared.Numbers.{Numbers}
-use Rattle.path.proofs.CardTestLaws.{card-wrong, card-by-numbers}
+use borrow.Author.Tests.{not-true, not-false}
+use mathlib.Core.Path.{ap}
+use Prim.Native.Nat.{_-_}
+use lib.ListN.{length}
+use Rattle.layout.specs.Counts.{columnCount}
+use Rattle.path.proofs.CardTestLaws.{Righted, righted-none, righted-all, righted-more, righted-fails}
 use Rattle.path.proofs.card_right.Statement.{statement}
 use Rattle.path.proofs.card_right.Tie as tie
 
-numbers-at-requires : tie.Need-numbers-at-requires
-numbers-at-requires c κs = search needs
+abbrev Inv-loop : tie.InvT-loop
+Inv-loop card table j k₀ k = Righted card j k
 
-returns : tie.Need-returns
-returns c = card-wrong _ _ (λ f. omega (arith, f .pickup-from, ap (λ (k : Numbers). k .pickup) (c .before .before .numbers-at .ensures)))
+abbrev μ-loop : tie.MeasureT-loop
+μ-loop card table j k₀ k = columnCount - k
 
-returns-2 : tie.Need-returns-2
-returns-2 c = card-wrong _ _ (λ f. omega (arith, f .pickup-to, ap (λ (k : Numbers). k .pickup) (c .before .before .before .before .numbers-at .ensures)))
+loop-holds : tie.Need-loop-holds Inv-loop μ-loop
+loop-holds c = righted-none _ _
 
-returns-3 : tie.Need-returns-3
-returns-3 c = card-wrong _ _ (λ f. omega (arith, f .delay-to, ap (λ (k : Numbers). k .delay) (c .before .before .before .before .before .before .numbers-at .ensures)))
+column-at-requires : tie.Need-column-at-requires Inv-loop μ-loop
+column-at-requires c κs = omega (arith, c .before .before .before .before .pre .0)
 
-returns-4 : tie.Need-returns-4
-returns-4 c =
-    card-by-numbers _ _ _ (c .before .before .before .before .before .before .before .numbers-at .ensures)
-    (c .before .before .before .before .before .if1 .left) (c .before .before .before .if2 .left) (c .before .if3 .left)
+in-bounds-requires : tie.Need-in-bounds-requires Inv-loop μ-loop
+in-bounds-requires c κs =
+    let start = c .before .before .before .before .before in
+    omega (arith, c .before .loop-test .taken, ap length (start .pre .1))
+
+returns : tie.Need-returns Inv-loop μ-loop
+returns c =
+    let test = c .before .before .before in
+    let start = test .before .before .before .before in
+    righted-fails _ _ _ _ (c .before .before .column-at .ensures) _ (start .pre .1) _ (c .before .in-bounds .ensures) (test .loop-test .taken)
+    (not-true _ (c .if1 .taken))
+
+add-k : tie.Need-add-k Inv-loop μ-loop
+add-k c = omega arith
+
+loop-less : tie.Need-loop-less Inv-loop μ-loop
+loop-less c = omega arith
+
+loop-again : tie.Need-loop-again Inv-loop μ-loop
+loop-again c =
+    let test = c .before .before .before in
+    let start = test .before .before .before .before in
+    righted-more _ _ _ _ (c .before .before .column-at .ensures) _ (start .pre .1) _ (c .before .in-bounds .ensures) (test .before .loop .inv)
+    (test .loop-test .taken) (not-false _ (c .if1 .left))
+
+returns-2 : tie.Need-returns-2 Inv-loop μ-loop
+returns-2 c = righted-all _ _ (c .before .loop .inv) (c .loop-test .left)
 
 pub card-right-spec : {M : Type 1} → statement M
-card-right-spec = tie.close (tie.spec numbers-at-requires returns returns-2 returns-3 returns-4)
+card-right-spec =
+    tie.close
+    (tie.spec
+    Inv-loop
+    μ-loop
+    loop-holds
+    column-at-requires
+    in-bounds-requires
+    returns
+    add-k
+    loop-less
+    loop-again
+    returns-2)

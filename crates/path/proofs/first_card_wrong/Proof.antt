@@ -1,5 +1,6 @@
--- `first_card_wrong` finds the first card row out of range: the rows that the loop has passed are in range. Assumes nothing.
-use mathlib.Core.Path.{ap, sym, _∙_}
+-- `first_card_wrong` finds the first card row out of range: the rows that the loop has passed are in range.
+use borrow.Author.Needs.{needs}
+use mathlib.Core.Path.{refl, ap, sym, _∙_}
 use mathlib.Core.Bool.{not}
 use Prim.Native.Nat.{_-_}
 use native.Mathlib.Omega.{arith}
@@ -9,19 +10,22 @@ use Rattle.path.proofs.first_card_wrong.Statement.{statement}
 use Rattle.path.proofs.first_card_wrong.Tie as tie
 
 abbrev Inv-loop : tie.InvT-loop
-Inv-loop card n j₀ j = Passed (λ j. not (cardRight card j)) n j
+Inv-loop card n table j₀ j = Passed (λ j. not (cardRight card j)) n j
 
 abbrev μ-loop : tie.MeasureT-loop
-μ-loop card n j₀ j = n - j
+μ-loop card n table j₀ j = n - j
 
 loop-holds : tie.Need-loop-holds Inv-loop μ-loop
 loop-holds c = passed-none _ _
 
+slice-aggregate-card-right : tie.Need-slice-aggregate-card-right Inv-loop μ-loop
+slice-aggregate-card-right c = search needs
+
 card-right-requires : tie.Need-card-right-requires Inv-loop μ-loop
-card-right-requires c κs = omega arith
+card-right-requires c κs = (omega arith, refl)
 
 returns : tie.Need-returns Inv-loop μ-loop
-returns c = sym (passed-found _ (c .before .before .before .loop .inv) (c .before .before .loop-test .taken) (sym (ap not (c .before .card-right .ensures)) ∙ c .if1 .taken))
+returns c = sym (passed-found _ (c .before .before .before .before .loop .inv) (c .before .before .before .loop-test .taken) (sym (ap not (c .before .card-right .ensures)) ∙ c .if1 .taken))
 
 add-j : tie.Need-add-j Inv-loop μ-loop
 add-j c = omega arith
@@ -30,7 +34,7 @@ loop-less : tie.Need-loop-less Inv-loop μ-loop
 loop-less c = omega arith
 
 loop-again : tie.Need-loop-again Inv-loop μ-loop
-loop-again c = passed-more _ (c .before .before .before .loop .inv) (c .before .before .loop-test .taken) (sym (ap not (c .before .card-right .ensures)) ∙ c .if1 .left)
+loop-again c = passed-more _ (c .before .before .before .before .loop .inv) (c .before .before .before .loop-test .taken) (sym (ap not (c .before .card-right .ensures)) ∙ c .if1 .left)
 
 returns-2 : tie.Need-returns-2 Inv-loop μ-loop
 returns-2 c = sym (passed-all _ (c .before .loop .inv) (c .loop-test .left))
@@ -42,6 +46,7 @@ first-card-wrong-spec =
     Inv-loop
     μ-loop
     loop-holds
+    slice-aggregate-card-right
     card-right-requires
     returns
     add-j

@@ -1,7 +1,10 @@
--- `work_path` begins with sums that are all 0, counts the rows off the path, and climbs. Assumes nothing.
+-- `work_path` begins with sums that are all 0, counts the rows off the path, and climbs.
 use native.Mathlib.Omega.{arith}
 use borrow.Author.Needs.{needs}
-use Rattle.whole.proofs.AllLaws.{clear-reads}
+use Prim.Native.Nat.{_*_}
+use Rattle.layout.specs.Counts.{rowsMost}
+use Rattle.work.specs.Sums.{askCount}
+use Rattle.work.proofs.StartLaws.{clear-reads}
 use Rattle.path.proofs.work_path.Statement.{statement}
 use Rattle.path.proofs.work_path.Tie as tie
 
@@ -11,7 +14,18 @@ slice-aggregate-push-rest c = search needs
 push-rest-requires : tie.Need-push-rest-requires
 push-rest-requires c κs =
     let a = c .before .before .before .before .pre in
-    record { path = a; sums-room = omega (arith, a .rework .rows-to); sums-clear = clear-reads 1024 }
+    record {
+      is-row = a .rework .is-row;
+      card-tested = a .card-tested;
+      unworked =
+          record {
+            rows-to = a .rework .rows-to;
+            tested = a .rows-tested;
+            card-room = a .rework .card-room;
+            sums-room = omega (arith, a .rework .rows-to);
+            sums-clear = clear-reads (rowsMost * askCount);
+          };
+    }
 
 slice-aggregate-climb : tie.Need-slice-aggregate-climb
 slice-aggregate-climb c = search needs
