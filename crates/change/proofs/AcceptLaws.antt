@@ -1,5 +1,5 @@
 -- An accepted list and its card: the tests pass, the calculation finishes with the card, and each row of the card stands at
--- its own least settings, which pass CARD. Assumes nothing.
+-- its own least settings, which pass CARD.
 use mathlib.Core.Path.{_≡_, refl, sym, ap, _∙_}
 use mathlib.Core.Bool.{Bool, true, false, cond}
 use mathlib.Core.List.{List}
@@ -7,29 +7,33 @@ use Prim.Native.Nat.{ℕ, _*_, _≤_, _<_}
 use native.Mathlib.Nat.{le-trans}
 use native.Mathlib.Omega.{arith}
 use lib.ListN.{length}
-use Rattle.layout.specs.Counts.{columnCount}
 use Rattle.grid.specs.declared.Found.{Found}
 use Rattle.grid.specs.declared.Found.the-variants.{At, Nothing}
 use Rattle.grid.proofs.GridLaws.{leastOn-least}
 use Rattle.answers.specs.declared.Answer.{Answer}
 use Rattle.answers.specs.declared.Answer.the-variants.{Done}
-use Rattle.layout.specs.declared.Row.{Row}
 use Rattle.answers.specs.declared.Tested.{Tested}
 use Rattle.answers.specs.declared.Tested.the-variants.{Passed, Refused}
+use Rattle.layout.specs.declared.CardRow.{CardRow}
+use Rattle.layout.specs.declared.Row.{Row}
+use Rattle.layout.specs.Card.{cardRowAt}
+use Rattle.layout.specs.Counts.{columnCount}
+use Rattle.layout.specs.Fields.{atLow}
 use Rattle.layout.specs.List.{rows, rowAt}
-use Rattle.rows.specs.InRange.{InRange, Bounded}
+use Rattle.layout.specs.View.{viewOf}
+use Rattle.rows.specs.InRange.{InRange, Bounded, AllBounded}
 use Rattle.rows.specs.Tests.{sizeTest, rowsTest}
-use Rattle.rows.proofs.InRangeLaws.{passed-in-range, passed-feeds, row-bounded, field-from}
+use Rattle.rows.proofs.InRangeLaws.{passed-feeds, row-bounded, field-from}
 use Rattle.rows.proofs.TestLaws.{size-passed}
 use Rattle.settle.specs.declared.Cutoff.the-variants.{Fitted, NotFitted}
 use Rattle.settle.specs.Conditions.{seesNear, staysClear}
-use Rattle.settle.specs.Settle.{leastPickup, fitting, cutoffOf, printed, settled}
+use Rattle.settle.specs.Settle.{leastPickup, fitting, cutoffOf, printed, shown, settled}
 use Rattle.settle.proofs.OutcomeLaws.{outcome-set}
 use Rattle.work.specs.WorkOut.{Worked, finished, refused}
 use Rattle.whole.specs.Whole.{Result, ending, after, calculation, whole}
 use Rattle.whole.proofs.FrameLaws.{calculation-keeps}
 use Rattle.whole.proofs.MeetsLaws.{pickup-least, delay-least}
-use Rattle.whole.proofs.SettledLaws.{RowSettled, calculation-settled}
+use Rattle.whole.proofs.SettledLaws.{Settles, calculation-settled}
 use Rattle.change.specs.Replace.{onPassed}
 use Rattle.change.proofs.RefusalLaws.{Later, refuses-done, size-refuses, rows-later, work-later, passed-refused, passed-finished}
 use Rattle.path.proofs.CardTestLaws.{CardFits}
@@ -69,7 +73,7 @@ accepts l c₀ c e = by-size (sizeTest (length l) (length c₀)) refl
         absurd (refuses-done (size-refuses (length l) (length c₀) a s) (ap (λ (r : Result). r .answer) (sym g ∙ e)))
 
 -- a card row at its own least settings passes CARD
-module _ (l : List ℕ) (a : InRange l) (c : List ℕ) (j : ℕ) (h : j < rows l) (s : RowSettled l c j) where
+module _ (l : List ℕ) (a : InRange l) (c : List ℕ) (j : ℕ) (h : j < rows l) (s : Settles l c j) where
   cutoff-bounded : (r : Row) → Bounded r → printed (cutoffOf r) ≤ 100000000
   unfolding cutoffOf fitting printed
   cutoff-bounded r b = by-cases (leastPickup r (staysClear r)) refl
@@ -83,17 +87,19 @@ module _ (l : List ℕ) (a : InRange l) (c : List ℕ) (j : ℕ) (h : j < rows l
       by-cases Nothing e = omega arith
 
   pub settled-fits : CardFits c j
-  unfolding settled
+  unfolding settled shown
   settled-fits =
+      let all : AllBounded (viewOf l) = λ j h. row-bounded l a j h in
       let b = row-bounded l a j h in
-      let p = pickup-least l a c j h s .available in
-      let d = delay-least l a c j h s .available in
-      let low : 1 ≤ rowAt l j .low = field-from l a j h 11 (omega arith) in
+      let p = pickup-least (viewOf l) all (cardRowAt c) j h s .available in
+      let d = delay-least (viewOf l) all (cardRowAt c) j h s .available in
+      let low : 1 ≤ rowAt l j .low = field-from l a j h atLow (omega arith) in
+      let shows = ap (λ (k : CardRow). k .cutoff) (s .shows) in
       record {
         pickup-from = omega (arith, p .on-grid);
         pickup-to = le-trans (p .within) (b .high-to);
         delay-to = le-trans (d .within) (b .ceiling-to);
-        cutoff-to = rw (s .cutoff, outcome-set (rowAt l j) _ _ (s .outcome) (s .settles) .cutoff-is) (cutoff-bounded (rowAt l j) b);
+        cutoff-to = rw (shows, outcome-set (rowAt l j) _ _ (s .outcome) (s .settles) .cutoff-is) (cutoff-bounded (rowAt l j) b);
       }
 
 module _ (l c₀ c : List ℕ) (x : Accepts l c₀ c) where
@@ -103,5 +109,5 @@ module _ (l c₀ c : List ℕ) (x : Accepts l c₀ c) where
   pub accepted-length : length c ≡ length c₀
   accepted-length = calculation-keeps l c₀ c (x .calculated) .same-length
 
-  pub rows-settled : (j : ℕ) → j < rows l → RowSettled l c j
-  rows-settled = calculation-settled l (passed-in-range l (x .tested)) (passed-feeds l (x .tested)) c₀ c accepted-room (x .calculated)
+  pub rows-settled : (j : ℕ) → j < rows l → Settles l c j
+  rows-settled = calculation-settled l (passed-feeds l (x .tested)) c₀ c accepted-room (x .calculated)

@@ -6,22 +6,22 @@
 --     off-path-kept            done, card rows off the replaced row's path keep their numbers; so does what stands past the rows,
 --                              and the list outside the row: with any card
 --     refused-changes-nothing  a refused one changes nothing
--- An accepted list l with its card c: `whole l c₀` is Done with card c, where c₀ is the card as it was lent. Assumes nothing.
+-- An accepted list l with its card c: `whole l c₀` is Done with card c, where c₀ is the card as it was lent.
 use mathlib.Core.Path.{_≡_, refl, sym, ap, ap₂, _∙_, subst}
 use mathlib.Core.Bool.{true, false}
 use mathlib.Core.Logic.{_↔_, _⊎_, ⊎-elim}
 use mathlib.Core.List.{List, [], _∷_}
 use Prim.Native.Nat.{ℕ, _+_, _-_, _*_, _≤_, _<_}
 use native.Mathlib.Omega.{arith}
-use lib.ListN.{length, getD}
-use Rattle.layout.specs.Counts.{fieldCount, columnCount}
+use lib.ListN.{length, getD, drop}
 use Rattle.grid.proofs.BoolLaws.{fails}
 use Rattle.answers.specs.declared.Answer.{Answer}
 use Rattle.answers.specs.declared.Answer.the-variants.{Done, Edit}
 use Rattle.answers.specs.declared.Tested.the-variants.{Passed}
+use Rattle.layout.specs.Card.{cardRowAt}
+use Rattle.layout.specs.Counts.{fieldCount, columnCount}
 use Rattle.layout.specs.List.{rows}
 use Rattle.rows.specs.Tests.{sizeTest}
-use Rattle.work.specs.Card.{pickupIn, delayIn, cutoffIn}
 use Rattle.work.specs.WorkOut.{Worked, finished, refused}
 use Rattle.whole.specs.Whole.{Result, ending, whole}
 use Rattle.path.specs.Path.{pathOf, onPath}
@@ -30,11 +30,14 @@ use Rattle.change.specs.Replace.{reworked, Replaced, outcome, replaced}
 use Rattle.change.specs.Series.{Request, replacements, entered, Ledger, ledger, putDone}
 use Rattle.change.proofs.AcceptLaws.{accepts}
 use Rattle.change.proofs.EditedLaws.{edited-put}
-use Rattle.change.proofs.KeptLaws.{replaces, replaced-list, refused-keeps, workOut-keeps, off-outside, past-outside}
+use Rattle.change.proofs.KeptLaws.{replaces, replaced-list, refused-keeps, workOut-keeps, off-outside, path-within}
 use Rattle.edit.proofs.PutLaws.{putList-before, putList-after}
 use Rattle.change.proofs.RefusalLaws.{Refuses, refuses-done, later-edit, reworked-later}
 use Rattle.change.proofs.SeriesLaws.{one-agrees, replaced-edit, replaced-edited, replaced-made, whole-made, made, made-answer, made-refuses}
 use Rattle.edit.proofs.TestLaws.{edit-fits}
+
+done-not-edit : Done ≡ Edit → ⊥
+done-not-edit e = let z : _≡_ {A = ℕ} 0 1 = cc in omega arith
 
 -- what holds after a series, the card being c₀ at the start and c after the whole calculation of l
 pub record AfterSeries (l c₀ c : List ℕ) (series : List Request) : Type 0 where
@@ -112,7 +115,7 @@ edit-exactly l c place row s = (
 )
   where
     by-cases : (w : Worked) → reworked (putList l (place - 1) row) (place - 1) c ≡ w → outcome l c (putList l (place - 1) row) w .answer ≡ Edit → ⊥
-    by-cases (finished d) q e = let z : _≡_ {A = ℕ} 0 1 = cc in omega arith
+    by-cases (finished d) q e = done-not-edit e
     by-cases (refused a) q e = later-edit (reworked-later (putList l (place - 1) row) (place - 1) c a q) e
 
 -- what a replacement that is done leaves alone, with any card
@@ -120,8 +123,8 @@ pub record LeftAlone (l c : List ℕ) (place : ℕ) (row l′ c′ : List ℕ) :
   pub list : l′ ≡ putList l (place - 1) row
   pub other-rows : (x : ℕ) → (x < (place - 1) * fieldCount) ⊎ ((place - 1) * fieldCount + fieldCount ≤ x) → getD l′ x 0 ≡ getD l x 0
   pub card-length : length c′ ≡ length c
-  pub off-path : (j : ℕ) → onPath l (place - 1) j ≡ false → (pickupIn c′ j ≡ pickupIn c j) × (delayIn c′ j ≡ delayIn c j) × (cutoffIn c′ j ≡ cutoffIn c j)
-  pub past-rows : (x : ℕ) → rows l * columnCount ≤ x → getD c′ x 0 ≡ getD c x 0
+  pub off-path : (j : ℕ) → onPath l (place - 1) j ≡ false → cardRowAt c′ j ≡ cardRowAt c j
+  pub past-rows : drop (rows l * columnCount) c′ ≡ drop (rows l * columnCount) c
 
 pub off-path-kept :
     (l c : List ℕ) (place : ℕ) (row : List ℕ) → replaced l c place row .answer ≡ Done →
@@ -130,19 +133,13 @@ off-path-kept l c place row e =
     let r = replaces l c place row e in
     let k = workOut-keeps (putList l (place - 1) row) (pathOf (putList l (place - 1) row) (place - 1)) c (r .card) (r .worked) in
     let put = edited-put l place row (r .fits) in
-    let out = off-outside l c place row (r .fits) (r .tested) in
     rw (r .is)
     (record {
       list = refl;
       other-rows = λ x. ⊎-elim (putList-before l (place - 1) row put x) (putList-after l (place - 1) row put x);
       card-length = k .same-length;
-      off-path =
-          λ j off. (
-            k .same (j * columnCount) (out j (j * columnCount) off (omega arith) (omega arith)),
-            k .same (j * columnCount + 1) (out j (j * columnCount + 1) off (omega arith) (omega arith)),
-            k .same (j * columnCount + 2) (out j (j * columnCount + 2) off (omega arith) (omega arith)),
-          );
-      past-rows = λ x h. k .same x (past-outside l c place row (r .fits) (r .tested) x h);
+      off-path = λ j off. k .same j (off-outside l c place row (r .fits) (r .tested) j off);
+      past-rows = k .past (rows l * columnCount) (path-within l c place row (r .fits) (r .tested));
     })
 
 pub refused-changes-nothing :

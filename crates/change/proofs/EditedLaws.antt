@@ -1,5 +1,5 @@
 -- A list with a new row that EDIT lets pass: as long as before, all rows but one as before, every row fed as before, and the
--- same paths. Assumes nothing.
+-- same paths.
 use mathlib.Core.Path.{_≡_, refl, sym, ap, _∙_}
 use mathlib.Core.Bool.{cond}
 use mathlib.Core.Logic.{⊎-elim}
@@ -11,7 +11,9 @@ use lib.ListN.{length}
 use borrow.Author.Tests.{eqb-true, eqb-false, ltb-true, ltb-false}
 use Rattle.layout.specs.Counts.{fieldCount}
 use Rattle.grid.proofs.BoolLaws.{passes-or-fails}
+use Rattle.layout.specs.Fields.{atFeeder}
 use Rattle.layout.specs.List.{rows, field, rowAt}
+use Rattle.layout.proofs.RowLaws.{same-row}
 use Rattle.path.specs.Path.{pathFrom, pathOf, onPath, has}
 use Rattle.edit.specs.Edit.{PutReady}
 use Rattle.edit.specs.Edit.{putList}
@@ -19,37 +21,13 @@ use Rattle.edit.proofs.PutLaws.{putList-length, putList-before, putList-within,
 use Rattle.edit.proofs.TestLaws.{EditFits}
 
 -- two lists with the same feeding rows have the same paths
-paths-same : (l l′ : List ℕ) → rows l ≡ rows l′ → ((j : ℕ) → field l j 1 ≡ field l′ j 1) → (i : ℕ) → pathOf l i ≡ pathOf l′ i
+paths-same : (l l′ : List ℕ) → rows l ≡ rows l′ → ((j : ℕ) → field l j atFeeder ≡ field l′ j atFeeder) → (i : ℕ) → pathOf l i ≡ pathOf l′ i
 unfolding pathOf pathFrom
 paths-same l l′ n f i = from (rows l) i ∙ ap (λ (n : ℕ). pathFrom l′ n i) n
   where
     from : (n i : ℕ) → pathFrom l n i ≡ pathFrom l′ n i
     from zero i = refl
-    from (suc n) i = rw f (ap (λ (t : List ℕ). i ∷ cond (eqb (field l′ i 1) 0) [] t) (from n (field l′ i 1 - 1)))
-
--- rows with the same fields
-same-row : (l l′ : List ℕ) (j : ℕ) → ((k : ℕ) → k < fieldCount → field l j k ≡ field l′ j k) → rowAt l j ≡ rowAt l′ j
-same-row l l′ j e =
-    λ t.
-    record {
-      feeder = e 1 (omega arith) t;
-      kind = e 2 (omega arith) t;
-      volts = e 3 (omega arith) t;
-      work = e 4 (omega arith) t;
-      selfstart = e 5 (omega arith) t;
-      returnfactor = e 6 (omega arith) t;
-      far = e 7 (omega arith) t;
-      clear = e 8 (omega arith) t;
-      near = e 9 (omega arith) t;
-      factor = e 10 (omega arith) t;
-      low = e 11 (omega arith) t;
-      high = e 12 (omega arith) t;
-      step = e 13 (omega arith) t;
-      device = e 14 (omega arith) t;
-      floor = e 15 (omega arith) t;
-      ceiling = e 16 (omega arith) t;
-      backed = e 17 (omega arith) t;
-    }
+    from (suc n) i = rw f (ap (λ (t : List ℕ). i ∷ cond (eqb (field l′ i atFeeder) 0) [] t) (from n (field l′ i atFeeder - 1)))
 
 module _ (l : List ℕ) (place : ℕ) (row : List ℕ) (f : EditFits l place row) where
   pub edited-put : PutReady l (place - 1) row
@@ -74,11 +52,11 @@ module _ (l : List ℕ) (place : ℕ) (row : List ℕ) (f : EditFits l place row
   pub edited-row : (j : ℕ) → (j ≡ place - 1 → ⊥) → rowAt l j ≡ rowAt (putList l (place - 1) row) j
   edited-row j n = same-row l (putList l (place - 1) row) j (λ k. edited-field j k n)
 
-  pub edited-feeder : (j : ℕ) → field l j 1 ≡ field (putList l (place - 1) row) j 1
+  pub edited-feeder : (j : ℕ) → field l j atFeeder ≡ field (putList l (place - 1) row) j atFeeder
   edited-feeder j =
       ⊎-elim
-      (λ b. let e = eqb-true j (place - 1) b in rw e (sym (putList-within l (place - 1) row edited-put 1 (omega arith) ∙ f .same-feeder)))
-      (λ b. edited-field j 1 (eqb-false j (place - 1) b) (omega arith))
+      (λ b. let e = eqb-true j (place - 1) b in rw e (sym (putList-within l (place - 1) row edited-put atFeeder (omega arith) ∙ f .same-feeder)))
+      (λ b. edited-field j atFeeder (eqb-false j (place - 1) b) (omega arith))
       (passes-or-fails (eqb j (place - 1)))
 
   pub edited-path : (i j : ℕ) → onPath l i j ≡ onPath (putList l (place - 1) row) i j

@@ -1,4 +1,4 @@
--- The replacement, one law for each way that it ends. Assumes nothing.
+-- The replacement, one law for each way that it ends.
 use mathlib.Core.Path.{_≡_, refl, sym, ap, _∙_, subst}
 use mathlib.Core.List.{List, [], append-nil}
 use Prim.Native.Nat.{ℕ, _+_, _-_, _*_}
@@ -13,6 +13,7 @@ use Rattle.answers.specs.Answer.{givenBy}
 use Rattle.rows.specs.Tests.{sizeTest, rowsTest}
 use Rattle.rows.proofs.TestLaws.{size-passed}
 use Rattle.work.specs.WorkOut.{Worked, finished, refused, workOut}
+use Rattle.work.proofs.EndLaws.{never-passed}
 use Rattle.path.specs.Path.{pathOf}
 use Rattle.edit.specs.Edit.{PutReady}
 use Rattle.change.specs.Ready.{ExchangeReady, exchanged, Exchanged, Gave}
@@ -55,7 +56,7 @@ module _ (l c : List ℕ) (i : ℕ) (row l′ : List ℕ) (el : l′ ≡ putList
     where
       by-cases : (w : Worked) → Passed ≡ testedOf w → c′ ≡ cardOf c w → Exchanged (outcome l c (putList l i row) w) Done l′ c′
       by-cases (finished d) q k = record { answer = refl; list = el; card = k }
-      by-cases (refused a) q k = absurd (let z : _≡_ {A = ℕ} 0 1 = cc in omega arith)
+      by-cases (refused a) q k = absurd (never-passed q)
 
   -- refused: the old row, which was kept aside in 18 numbers, goes back
   pub exchange-refused :

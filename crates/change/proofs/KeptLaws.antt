@@ -1,28 +1,30 @@
--- Working out rows writes the numbers of those rows only; what a replacement that is done has passed. Assumes nothing.
+-- Working out rows writes those rows of the card only; what a replacement that is done has passed.
 use mathlib.Core.Path.{_≡_, refl, sym, ap, _∙_}
 use mathlib.Core.Bool.{true, false, cond, or-true}
 use mathlib.Core.List.{List, [], _∷_}
 use Prim.Native.Nat.{ℕ, _+_, _-_, _*_, _≤_, _<_}
 use native.Mathlib.Omega.{arith}
 use lib.Dec.{eqb}
-use lib.ListN.{length, getD}
+use lib.ListN.{length, drop}
 use borrow.Author.Tests.{eq-eqb}
-use Rattle.layout.specs.Counts.{columnCount}
-use Rattle.grid.proofs.BoolLaws.{not-both}
+use Rattle.grid.proofs.BoolLaws.{not-both, or-left, or-right}
 use Rattle.answers.specs.declared.Answer.{Answer}
 use Rattle.answers.specs.declared.Answer.the-variants.{Done}
 use Rattle.answers.specs.declared.Tested.the-variants.{Passed}
 use Rattle.answers.specs.Answer.{givenBy, numberOf}
+use Rattle.layout.specs.declared.CardRow.{CardRow}
+use Rattle.layout.specs.Card.{cardRowAt, putCardRow}
+use Rattle.layout.specs.Counts.{columnCount}
 use Rattle.layout.specs.List.{rows}
+use Rattle.layout.specs.View.{viewOf}
+use Rattle.layout.proofs.CardLaws.{putCardRow-length, putCardRow-other, putCardRow-drop}
 use Rattle.rows.specs.Tests.{sizeTest, rowsTest}
 use Rattle.rows.proofs.InRangeLaws.{passed-feeds}
-use Rattle.settle.specs.declared.Outcome.{Outcome}
 use Rattle.settle.specs.declared.Settled.{Settled}
 use Rattle.settle.specs.declared.Settled.the-variants.{Set, Unset}
-use Rattle.settle.specs.Settle.{settled}
-use Rattle.work.specs.Card.{pickupIn, delayIn, putRow}
+use Rattle.settle.specs.Settle.{shown, settled}
 use Rattle.work.specs.WorkOut.{Worked, finished, refused, onSettled, workOut}
-use Rattle.work.proofs.CardLaws.{putRow-length, putRow-other}
+use Rattle.work.proofs.EndLaws.{never-finished}
 use Rattle.path.specs.Path.{pathOf, has, onPath}
 use Rattle.edit.specs.Edit.{putList, editTest}
 use Rattle.change.specs.Replace.{onPassed, reworked, outcome, replaced}
@@ -31,36 +33,36 @@ use Rattle.path.proofs.PathLaws.{on-within}
 use Rattle.change.proofs.RefusalLaws.{Refuses, refuses-done, size-refuses, edit-refuses, reworked-later, passed-refused, passed-finished}
 use Rattle.edit.proofs.TestLaws.{EditFits, edit-passed}
 
--- a number of the card that belongs to no row of `is`
-unfoldable pub Outside : List ℕ → ℕ → Type 0
-Outside is x = (i : ℕ) → has is i ≡ true → i * columnCount ≤ x → x < i * columnCount + columnCount → ⊥
-
 module _ (l : List ℕ) where
   pub record Keeps (is c c′ : List ℕ) : Type 0 where
     pub same-length : length c′ ≡ length c
-    pub same : (x : ℕ) → Outside is x → getD c′ x 0 ≡ getD c x 0
+    pub same : (j : ℕ) → has is j ≡ false → cardRowAt c′ j ≡ cardRowAt c j
+    pub past : (n : ℕ) → ((i : ℕ) → has is i ≡ true → i * columnCount + columnCount ≤ n) → drop n c′ ≡ drop n c
 
   pub workOut-keeps : (is c c′ : List ℕ) → workOut l is c ≡ finished c′ → Keeps is c c′
-  unfolding workOut onSettled Outside has
+  unfolding workOut onSettled has
   workOut-keeps [] c c′ e =
       let q : c ≡ c′ = cc in
-      record { same-length = ap length (sym q); same = λ x _. ap (λ (c : List ℕ). getD c x 0) (sym q) }
-  workOut-keeps (i ∷ is) c c′ e = by-cases (settled l (pickupIn c) (delayIn c) i) e (λ o. workOut-keeps is (putRow c i o) c′)
+      record { same-length = ap length (sym q); same = λ j _. ap (λ (c : List ℕ). cardRowAt c j) (sym q); past = λ n _. ap (drop n) (sym q) }
+  workOut-keeps (i ∷ is) c c′ e = by-cases (settled (viewOf l) (cardRowAt c) i) e (λ k. workOut-keeps is (putCardRow c i k) c′)
     where
       by-cases :
-          (s : Settled) → onSettled i s (λ o. workOut l is (putRow c i o)) ≡ finished c′ →
-          ((o : Outcome) → workOut l is (putRow c i o) ≡ finished c′ → Keeps is (putRow c i o) c′) → Keeps (i ∷ is) c c′
+          (s : Settled) → onSettled i s (λ k. workOut l is (putCardRow c i k)) ≡ finished c′ →
+          ((k : CardRow) → workOut l is (putCardRow c i k) ≡ finished c′ → Keeps is (putCardRow c i k) c′) → Keeps (i ∷ is) c c′
       by-cases (Set o) e ih =
-          let k = ih o e in
+          let k = ih (shown o) e in
           record {
-            same-length = k .same-length ∙ putRow-length c i o;
+            same-length = k .same-length ∙ putCardRow-length c i (shown o);
             same =
-                λ x out.
-                let own = out i (rw (eq-eqb i i refl)) in
-                k .same x (λ j on. out j (rw on (or-true (eqb j i)))) ∙
-                putRow-other c i o x (λ q. own (omega arith) (omega arith)) (λ q. own (omega arith) (omega arith)) (λ q. own (omega arith) (omega arith));
+                λ j out.
+                k .same j (or-right (eqb j i) (has is j) out) ∙
+                putCardRow-other c i (shown o) j (λ q. not-both (eq-eqb j i q) (or-left (eqb j i) (has is j) out));
+            past =
+                λ n room.
+                k .past n (λ j on. room j (rw on (or-true (eqb j i)))) ∙
+                putCardRow-drop c i (shown o) n (room i (rw (eq-eqb i i refl)));
           }
-      by-cases (Unset why) e ih = absurd (let z : _≡_ {A = ℕ} 0 1 = cc in omega arith)
+      by-cases (Unset why) e ih = absurd (never-finished e)
 
 module _ (l c : List ℕ) (place : ℕ) (row : List ℕ) where
   abbrev tried : Worked
@@ -121,17 +123,15 @@ module _ (l c : List ℕ) (place : ℕ) (row : List ℕ) where
       by-cases (finished d) n = absurd (n refl)
       by-cases (refused a) n = (refl, refl)
 
-  -- the numbers of a row off the path, and those past all rows, belong to no row of the path
+  -- a row off the path is none of the new list's path, whose rows are rows of the list
   module _ (f : EditFits l place row) (t : rowsTest (putList l (place - 1) row) ≡ Passed) where
-    pub off-outside : (j x : ℕ) → onPath l (place - 1) j ≡ false → j * columnCount ≤ x → x < j * columnCount + columnCount → Outside (pathOf (putList l (place - 1) row) (place - 1)) x
-    unfolding Outside onPath
-    off-outside j x off lo hi i on a b =
-        let q : i ≡ j = omega arith in
-        not-both on (rw q (sym (edited-path l place row f (place - 1) j) ∙ off))
+    pub off-outside : (j : ℕ) → onPath l (place - 1) j ≡ false → has (pathOf (putList l (place - 1) row) (place - 1)) j ≡ false
+    unfolding onPath
+    off-outside j off = sym (edited-path l place row f (place - 1) j) ∙ off
 
-    pub past-outside : (x : ℕ) → rows l * columnCount ≤ x → Outside (pathOf (putList l (place - 1) row) (place - 1)) x
-    unfolding Outside onPath
-    past-outside x h i on a b =
+    pub path-within : (i : ℕ) → has (pathOf (putList l (place - 1) row) (place - 1)) i ≡ true → i * columnCount + columnCount ≤ rows l * columnCount
+    unfolding onPath
+    path-within i on =
         let n = edited-rows l place row f in
         let k = on-within (putList l (place - 1) row) (passed-feeds (putList l (place - 1) row) t) (place - 1) i (rw (← n) (edited-is-row l place row f)) on in
         omega arith

@@ -1,22 +1,24 @@
 -- After an edit of an accepted list, a row off the path has the same fields, fed rows and card numbers as before, so it stands
--- at its own least settings; the path worked out on the card is then the whole calculation of the new list. Assumes nothing.
+-- at its own least settings; the path worked out on the card is then the whole calculation of the new list.
 use mathlib.Core.Path.{_≡_, refl, sym, ap, _∙_, subst}
 use mathlib.Core.Bool.{false}
 use mathlib.Core.List.{List}
 use Prim.Native.Nat.{ℕ, _+_, _-_, _*_, _≤_, _<_}
 use lib.Dec.{eqb}
 use lib.ListN.{length, drop}
-use Rattle.layout.specs.Counts.{columnCount}
 use Rattle.grid.proofs.BoolLaws.{not-both}
 use Rattle.answers.specs.declared.Tested.{Tested}
 use Rattle.answers.specs.declared.Tested.the-variants.{Passed, Refused}
+use Rattle.layout.specs.Card.{cardRowAt}
+use Rattle.layout.specs.Counts.{columnCount}
 use Rattle.layout.specs.List.{rows}
-use Rattle.rows.specs.InRange.{InRange, Feeds}
+use Rattle.layout.specs.View.{viewOf}
+use Rattle.rows.specs.InRange.{Feeds}
 use Rattle.rows.specs.Tests.{rowsTest}
 use Rattle.rows.proofs.InRangeLaws.{passed-in-range, passed-feeds}
-use Rattle.work.specs.Card.{pickupIn, delayIn}
+use Rattle.settle.proofs.SameLaws.{settled-same}
 use Rattle.whole.specs.Whole.{calculation}
-use Rattle.whole.proofs.FrameLaws.{settled-same, calculation-keeps}
+use Rattle.whole.proofs.FrameLaws.{calculation-keeps}
 use Rattle.path.specs.Path.{onPath}
 use Rattle.edit.specs.Edit.{putList}
 use Rattle.change.specs.Replace.{onPassed, reworked}
@@ -37,9 +39,6 @@ module _ (l c₀ c : List ℕ) (x : Accepts l c₀ c) (place : ℕ) (row : List 
 
   -- 4 and 5 pass for the new list too
   module _ (e : rowsTest l′ ≡ Passed) where
-    in-range : InRange l′
-    in-range = passed-in-range l′ e
-
     feeds : Feeds l′
     feeds = passed-feeds l′ e
 
@@ -56,27 +55,25 @@ module _ (l c₀ c : List ℕ) (x : Accepts l c₀ c) (place : ℕ) (row : List 
     not-new : (j : ℕ) → onPath l′ (place - 1) j ≡ false → j ≡ place - 1 → ⊥
     not-new j off q = not-both (on-self l′ feeds (place - 1) is-row) (rw q at off)
 
-    rests : Rests l′ in-range feeds (place - 1) is-row c
+    rests : Rests l′ feeds (place - 1) is-row c
     unfolding Rests
     rests j h off =
         let s = rows-settled l c₀ c x j (below j h) in
         record {
           outcome = s .outcome;
           settles =
-              settled-same l′ l (pickupIn c) (pickupIn c) (delayIn c) (delayIn c) j (sym (edited-rows l place row f)) (sym (edited-row l place row f j (not-new j off)))
+              settled-same (viewOf l′) (viewOf l) (cardRowAt c) (cardRowAt c) j (sym (edited-rows l place row f)) (sym (edited-row l place row f j (not-new j off)))
               (λ k _. ap (λ (f : ℕ). eqb f (j + 1)) (sym (edited-feeder l place row f k)))
-              (λ k _ g. sym (edited-row l place row f k (not-new k (fed-off l′ in-range feeds (place - 1) is-row j k off g))))
-              (λ k _ _. refl) (λ k _ _. refl) in-range (passed-in-range l (x .tested)) h ∙
+              (λ k _ g. sym (edited-row l place row f k (not-new k (fed-off l′ feeds (place - 1) is-row j k off g))))
+              (λ k _ _. refl) ∙
               s .settles;
-          pickup = s .pickup;
-          delay = s .delay;
-          cutoff = s .cutoff;
+          shows = s .shows;
         }
 
     same-calculation : calculation l′ c ≡ calculation l′ c₀
     same-calculation =
         let room = same-rows (λ n. n * columnCount ≤ length c₀) (accepted-room l c₀ c x) in
-        calculation-same l′ in-range feeds c c₀ (rw (accepted-length l c₀ c x) room) room
+        calculation-same l′ feeds c c₀ (rw (accepted-length l c₀ c x) room) room
         (same-rows (λ n. drop (n * columnCount) c ≡ drop (n * columnCount) c₀) (calculation-keeps l c₀ c (x .calculated) .past-rows))
 
   pub reworked-whole : reworked (putList l (place - 1) row) (place - 1) c ≡ onPassed (rowsTest (putList l (place - 1) row)) (calculation (putList l (place - 1) row) c₀)
@@ -85,5 +82,5 @@ module _ (l c₀ c : List ℕ) (x : Accepts l c₀ c) (place : ℕ) (row : List 
     where
       by-cases : (t : Tested) → rowsTest l′ ≡ t → reworked l′ (place - 1) c ≡ onPassed (rowsTest l′) (calculation l′ c₀)
       by-cases Passed e =
-          rw (e, card-passes e) (sym (calculation-path l′ (in-range e) (feeds e) (place - 1) (is-row e) c (rests e)) ∙ same-calculation e)
+          rw (e, card-passes e) (sym (calculation-path l′ (feeds e) (place - 1) (is-row e) c (rests e)) ∙ same-calculation e)
       by-cases (Refused a) e = rw e

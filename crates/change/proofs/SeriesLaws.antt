@@ -1,5 +1,5 @@
 -- One replacement on an accepted list and its card, beside one entry of the ledger: the same answer, the same list, and list
--- and card accepted again. Assumes nothing.
+-- and card accepted again.
 use mathlib.Core.Path.{_≡_, refl, sym, ap, _∙_}
 use mathlib.Core.Bool.{true, false}
 use mathlib.Core.Logic.{⊎-elim}
@@ -15,7 +15,7 @@ use Rattle.answers.specs.declared.Tested.{Tested}
 use Rattle.answers.specs.declared.Tested.the-variants.{Passed, Refused}
 use Rattle.layout.specs.List.{rows}
 use Rattle.rows.specs.Tests.{sizeTest, rowsTest}
-use Rattle.rows.proofs.InRangeLaws.{passed-in-range, passed-feeds}
+use Rattle.rows.proofs.InRangeLaws.{passed-feeds}
 use Rattle.rows.proofs.TestLaws.{size-passed, size-right}
 use Rattle.work.specs.WorkOut.{Worked, finished, refused}
 use Rattle.whole.specs.Whole.{Result, ending, calculation, whole}
@@ -42,7 +42,7 @@ answer-same l c c′ s s′ = ap (λ (r : Result). r .answer) (whole-as l c s) �
     by-cases Passed e =
         let k = size-passed (length l) (length c) s in
         let k′ = size-passed (length l) (length c′) s′ in
-        rw (e, calculation-frame l (passed-in-range l e) (passed-feeds l e) c c′ (omega (arith, k .card-room)) (omega (arith, k′ .card-room))) (by-work (calculation l c))
+        rw (e, calculation-frame l (passed-feeds l e) c c′ (omega (arith, k .card-room)) (omega (arith, k′ .card-room))) (by-work (calculation l c))
     by-cases (Refused a) e = rw e
 
 pub edit-cases : {P : Type 0} (l : List ℕ) (place : ℕ) (row : List ℕ) → (EditFits l place row → editRight l place row ≡ true → P) → (editRight l place row ≡ false → P) → P

@@ -1,5 +1,5 @@
 -- Where every row off a path stands at its own least settings, the calculation of all rows ends as that of the path: a row
--- off the path is written with what stands there, and the rows of the path ascend. Assumes nothing.
+-- off the path is written with what stands there, and the rows of the path ascend.
 use mathlib.Core.Path.{_≡_, refl, sym, ap, _∙_}
 use mathlib.Core.Bool.{true, false}
 use mathlib.Core.Logic.{⊎-elim}
@@ -10,48 +10,50 @@ use native.Mathlib.Omega.{arith}
 use lib.Dec.{eqb}
 use lib.ListN.{length, take, drop, take-append-drop}
 use borrow.Author.Tests.{eqb-true, eqb-false, ne-eqb}
-use Rattle.layout.specs.Counts.{columnCount}
 use Rattle.grid.proofs.BoolLaws.{passes-or-fails, not-both, fails}
+use Rattle.layout.specs.declared.CardRow.{CardRow}
+use Rattle.layout.specs.Card.{cardRowAt, putCardRow}
+use Rattle.layout.specs.Counts.{columnCount}
+use Rattle.layout.specs.Fields.{atFeeder}
 use Rattle.layout.specs.List.{rows, field}
-use Rattle.rows.specs.InRange.{InRange, Feeds}
-use Rattle.settle.specs.declared.Outcome.{Outcome}
+use Rattle.layout.specs.View.{viewOf}
+use Rattle.layout.proofs.CardLaws.{putCardRow-other, putCardRow-stands}
+use Rattle.rows.specs.InRange.{Feeds}
 use Rattle.settle.specs.declared.Settled.{Settled}
 use Rattle.settle.specs.declared.Settled.the-variants.{Set, Unset}
 use Rattle.settle.specs.Conditions.{fed}
-use Rattle.settle.specs.Settle.{settled}
-use Rattle.work.specs.Card.{pickupIn, delayIn, putRow}
+use Rattle.settle.specs.Settle.{shown, settled}
+use Rattle.settle.proofs.SameLaws.{settled-same}
 use Rattle.work.specs.WorkOut.{Worked, finished, refused, onSettled, workOut, upFrom}
-use Rattle.work.proofs.CardLaws.{putRow-other, putRow-pickup-other, putRow-delay-other}
 use Rattle.whole.specs.Whole.{calculation}
-use Rattle.whole.proofs.FrameLaws.{settled-same, framed, calculation-frame, calculation-keeps}
-use Rattle.whole.proofs.SettledLaws.{RowSettled}
+use Rattle.whole.proofs.FrameLaws.{framed, calculation-frame, calculation-keeps}
+use Rattle.whole.proofs.SettledLaws.{Settles}
 use Rattle.path.specs.Path.{pathOf, onPath}
 use Rattle.path.proofs.PathLaws.{fed-climbs, source-last, path-source, path-fed, on-fed, on-self, on-feeder, off-below}
-use Rattle.path.proofs.NumbersLaws.{row-stands}
 
 -- a row at its own least settings is written with what stands there
-workOut-skip : (l : List ℕ) (j : ℕ) (is c : List ℕ) → RowSettled l c j → workOut l (j ∷ is) c ≡ workOut l is c
+workOut-skip : (l : List ℕ) (j : ℕ) (is c : List ℕ) → Settles l c j → workOut l (j ∷ is) c ≡ workOut l is c
 unfolding workOut onSettled
-workOut-skip l j is c r = rw (r .settles) (ap (workOut l is) (row-stands c j (r .outcome) (r .pickup) (r .delay) (r .cutoff)))
+workOut-skip l j is c r = rw (r .settles, ← r .shows) (ap (workOut l is) (putCardRow-stands c j))
 
-settled-then : (i : ℕ) (s : Settled) (f g : Outcome → Worked) → ((o : Outcome) → f o ≡ g o) → onSettled i s f ≡ onSettled i s g
+settled-then : (i : ℕ) (s : Settled) (f g : CardRow → Worked) → ((k : CardRow) → f k ≡ g k) → onSettled i s f ≡ onSettled i s g
 unfolding onSettled
-settled-then i (Set o) f g e = e o
+settled-then i (Set o) f g e = e (shown o)
 settled-then i (Unset why) f g e = refl
 
-module _ (l : List ℕ) (a : InRange l) (b : Feeds l) (i : ℕ) (h : i < rows l) where
+module _ (l : List ℕ) (b : Feeds l) (i : ℕ) (h : i < rows l) where
   -- every row off the path of row i stands at its own least settings
   unfoldable pub Rests : List ℕ → Type 0
-  Rests c = (j : ℕ) → j < rows l → onPath l i j ≡ false → RowSettled l c j
+  Rests c = (j : ℕ) → j < rows l → onPath l i j ≡ false → Settles l c j
 
   -- the rows that a row off the path feeds are off it
-  pub fed-off : (j k : ℕ) → onPath l i j ≡ false → fed l j k ≡ true → onPath l i k ≡ false
+  pub fed-off : (j k : ℕ) → onPath l i j ≡ false → fed (viewOf l) j k ≡ true → onPath l i k ≡ false
   fed-off j k o g =
-      let f = eqb-true (field l k 1) (j + 1) g in
-      let e : field l k 1 - 1 ≡ j = omega arith in
+      let f = eqb-true (field l k atFeeder) (j + 1) g in
+      let e : field l k atFeeder - 1 ≡ j = omega arith in
       fails (onPath l i k) (λ on. not-both (on-feeder l b i k h on (λ z. omega arith)) (rw e o))
 
-  rests-next : (k : ℕ) (c : List ℕ) (o : Outcome) → onPath l i k ≡ true → Rests c → Rests (putRow c k o)
+  rests-next : (k : ℕ) (c : List ℕ) (o : CardRow) → onPath l i k ≡ true → Rests c → Rests (putCardRow c k o)
   unfolding Rests
   rests-next k c o on r j g off =
       let s = r j g off in
@@ -59,13 +61,10 @@ module _ (l : List ℕ) (a : InRange l) (b : Feeds l) (i : ℕ) (h : i < rows l)
       record {
         outcome = s .outcome;
         settles =
-            settled-same l l (pickupIn (putRow c k o)) (pickupIn c) (delayIn (putRow c k o)) (delayIn c) j refl refl (λ x _. refl) (λ x _ _. refl)
-            (λ x _ f. putRow-pickup-other c k o x (λ e. not-both on (rw (← e) (fed-off j x off f))))
-            (λ x _ f. putRow-delay-other c k o x (λ e. not-both on (rw (← e) (fed-off j x off f)))) a a g ∙
+            settled-same (viewOf l) (viewOf l) (cardRowAt (putCardRow c k o)) (cardRowAt c) j refl refl (λ x _. refl) (λ x _ _. refl)
+            (λ x _ f. putCardRow-other c k o x (λ e. not-both on (rw (← e) (fed-off j x off f)))) ∙
             s .settles;
-        pickup = putRow-pickup-other c k o j n ∙ s .pickup;
-        delay = putRow-delay-other c k o j n ∙ s .delay;
-        cutoff = putRow-other c k o (j * columnCount + 2) (λ e. omega arith) (λ e. omega arith) (λ e. n (omega arith)) ∙ s .cutoff;
+        shows = putCardRow-other c k o j n ∙ s .shows;
       }
 
   -- m rows from k on are left, x is the next row of the path
@@ -80,30 +79,31 @@ module _ (l : List ℕ) (a : InRange l) (b : Feeds l) (i : ℕ) (h : i < rows l)
       rw e
       (⊎-elim (at-source e)
       (at-fed e (λ y c′ p q v w. along m (suc x) y c′ (omega arith) p q v w))
-      (passes-or-fails (eqb (field l x 1) 0))))
+      (passes-or-fails (eqb (field l x atFeeder) 0))))
       (λ (lt : k < x).
       workOut-skip l k (upFrom (suc k) m) c (r k (omega arith) (left k (omega arith) ∙ off-below l b x k g lt)) ∙
       along m (suc k) x c (omega arith) lt g (λ z q. left z (omega arith)) r)
       (eq-or-lt-of-le le)
     where
-      at-source : k ≡ x → eqb (field l x 1) 0 ≡ true → workOut l (x ∷ upFrom (suc x) m) c ≡ workOut l (pathOf l x) c
+      at-source : k ≡ x → eqb (field l x atFeeder) 0 ≡ true → workOut l (x ∷ upFrom (suc x) m) c ≡ workOut l (pathOf l x) c
       at-source e t =
-          let z = eqb-true (field l x 1) 0 t in
+          let z = eqb-true (field l x atFeeder) 0 t in
           let q : m ≡ 0 = omega (arith, source-last l b x g z) in
           rw (q, path-source l b x g z)
 
       at-fed :
           k ≡ x →
           ((y : ℕ) (c′ : List ℕ) → suc x ≤ y → y < rows l → ((z : ℕ) → suc x ≤ z → onPath l i z ≡ onPath l y z) → Rests c′ → workOut l (upFrom (suc x) m) c′ ≡ workOut l (pathOf l y) c′) →
-          eqb (field l x 1) 0 ≡ false → workOut l (x ∷ upFrom (suc x) m) c ≡ workOut l (pathOf l x) c
+          eqb (field l x atFeeder) 0 ≡ false → workOut l (x ∷ upFrom (suc x) m) c ≡ workOut l (pathOf l x) c
       at-fed e ih t =
-          let z = eqb-false (field l x 1) 0 t in
+          let z = eqb-false (field l x atFeeder) 0 t in
           let up = fed-climbs l b x g z in
           let on : onPath l i x ≡ true = left x le ∙ on-self l b x g in
           rw (path-fed l b x g z)
-          (settled-then x (settled l (pickupIn c) (delayIn c) x) (λ o. workOut l (upFrom (suc x) m) (putRow c x o)) (λ o. workOut l (pathOf l (field l x 1 - 1)) (putRow c x o))
+          (settled-then x (settled (viewOf l) (cardRowAt c) x) (λ o. workOut l (upFrom (suc x) m) (putCardRow c x o))
+          (λ o. workOut l (pathOf l (field l x atFeeder - 1)) (putCardRow c x o))
           (λ o.
-          ih (field l x 1 - 1) (putRow c x o) (up .above) (up .within)
+          ih (field l x atFeeder - 1) (putCardRow c x o) (up .above) (up .within)
           (λ y q. left y (omega arith) ∙ on-fed l b x y g z ∙ rw (ne-eqb y x (λ e. omega arith)))
           (rests-next x c o on r)))
 
@@ -111,12 +111,12 @@ module _ (l : List ℕ) (a : InRange l) (b : Feeds l) (i : ℕ) (h : i < rows l)
   unfolding calculation
   calculation-path c r = along (rows l) 0 i c (zero-add (rows l)) (omega arith) h (λ z _. refl) r
 
--- on cards that hold the same past three numbers a row, the calculation is the same
+-- on cards that hold the same past their rows, the calculation is the same
 pub calculation-same :
-    (l : List ℕ) → InRange l → Feeds l → (c c′ : List ℕ) → rows l * columnCount ≤ length c → rows l * columnCount ≤ length c′ → drop (rows l * columnCount) c ≡ drop (rows l * columnCount) c′ →
+    (l : List ℕ) → Feeds l → (c c′ : List ℕ) → rows l * columnCount ≤ length c → rows l * columnCount ≤ length c′ → drop (rows l * columnCount) c ≡ drop (rows l * columnCount) c′ →
     calculation l c ≡ calculation l c′
 unfolding framed
-calculation-same l a b c c′ h h′ e = calculation-frame l a b c′ c h′ h ∙ by-cases (calculation l c′) refl
+calculation-same l b c c′ h h′ e = calculation-frame l b c′ c h′ h ∙ by-cases (calculation l c′) refl
   where
     by-cases : (w : Worked) → calculation l c′ ≡ w → framed (rows l * columnCount) c w ≡ w
     by-cases (finished d) q =

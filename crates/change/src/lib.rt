@@ -35,7 +35,7 @@ fn exchange(list: &mut [u64], card: &mut [u64], i: usize, row: &[u64]) -> Answer
     requires { ⌜ ExchangeReady (now list) i (now card) (now row) ⌝ }
     ensures { λ a. ⌜ Exchanged (exchanged (now (list .entry)) (now (card .entry)) i (now (row .entry))) a (now (list .exit)) (now (card .exit)) ⌝ }
 {
-    let mut old = [0u64; 18];
+    let mut old = [0u64; FIELDS];
     let at = i * FIELDS;
     put_list(&mut old, 0, &list[at..at + FIELDS]);
     put_list(list, i, row);

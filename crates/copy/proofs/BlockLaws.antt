@@ -10,7 +10,7 @@ use native.Mathlib.Omega.{arith}
 use lib.Dec.{ltb}
 use lib.ListN.{length, getD, set, take, drop, length-set}
 use borrow.Author.Tests.{ltb-true, ltb-false}
-use lib.Seq.{sets, length-sets, sets-eq, paste, take-length, getD-set-same, getD-set-other, drop-set-lt, ext-getD, length-take-le, getD-take}
+use lib.Seq.{sets, length-sets, sets-eq, paste, take-length, set-getD, getD-set-same, getD-set-other, drop-set-lt, ext-getD, length-take-le, getD-take}
 
 -- a block copied to a place, as a run of stores
 pub pasted-sets : (l : List ℕ) (at : ℕ) (b : List ℕ) → at + length b ≤ length l → paste l at b (length b) ≡ sets l at b
@@ -44,6 +44,15 @@ drop-sets [] l at n h = refl
 drop-sets (a ∷ b) l at n h =
     drop-sets b (set l at a) (suc at) n (omega (arith, add-suc at (length b), suc-add at (length b))) ∙
     drop-set-lt n l at a (omega (arith, add-suc at (length b)))
+
+-- numbers stored where they stand change nothing
+pub sets-stands : (b l : List ℕ) (at : ℕ) → ((k : ℕ) → k < length b → getD b k 0 ≡ getD l (at + k) 0) → sets l at b ≡ l
+sets-stands [] l at h = refl
+sets-stands (a ∷ b) l at h =
+    let own : a ≡ getD l at 0 = h 0 (omega arith) ∙ (let e : at + 0 ≡ at = omega arith in rw e) in
+    let stands : set l at a ≡ l = rw own (set-getD l at 0) in
+    rw stands
+    (sets-stands b l (suc at) (λ k g. h (suc k) (omega arith) ∙ (let e : at + suc k ≡ suc at + k = omega arith in rw e)))
 
 -- what a run of stores leaves is the list l′, where l and l′ agree outside the run and the run's numbers are those of l′
 pub sets-is :

@@ -1,4 +1,4 @@
--- The test 10 EDIT passes exactly what section 4 lets pass. Assumes nothing.
+-- The test 10 EDIT passes exactly what section 4 lets pass.
 use mathlib.Core.Path.{_≡_, refl}
 use mathlib.Core.Bool.{Bool, true, false, cond, _&&_}
 use mathlib.Core.List.{List}
@@ -12,6 +12,7 @@ use Rattle.grid.specs.First.{first}
 use Rattle.grid.proofs.BoolLaws.{and-left, and-right, and-both, fails}
 use Rattle.answers.specs.declared.Answer.the-variants.{Edit}
 use Rattle.answers.specs.declared.Tested.the-variants.{Passed, Refused}
+use Rattle.layout.specs.Fields.{atFeeder}
 use Rattle.layout.specs.List.{rows, field}
 use Rattle.edit.specs.Edit.{editRight, editTest}
 
@@ -21,7 +22,7 @@ pub record EditFits (l : List ℕ) (place : ℕ) (row : List ℕ) : Type 0 where
   pub to : place ≤ rows l
   pub row-length : length row ≡ fieldCount
   pub own-number : getD row 0 0 ≡ place
-  pub same-feeder : getD row 1 0 ≡ field l (place - 1) 1
+  pub same-feeder : getD row atFeeder 0 ≡ field l (place - 1) atFeeder
 
 module _ (l : List ℕ) (place : ℕ) (row : List ℕ) where
   pub edit-fits : editRight l place row ≡ true → EditFits l place row
@@ -31,7 +32,7 @@ module _ (l : List ℕ) (place : ℕ) (row : List ℕ) where
       let b = leb place (rows l) in
       let x = eqb (length row) fieldCount in
       let y = eqb (getD row 0 0) place in
-      let z = eqb (getD row 1 0) (field l (place - 1) 1) in
+      let z = eqb (getD row atFeeder 0) (field l (place - 1) atFeeder) in
       let first = and-left (a && b) (x && (y && z)) e in
       let rest = and-right (a && b) (x && (y && z)) e in
       let last = and-right x (y && z) rest in

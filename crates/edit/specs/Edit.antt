@@ -9,6 +9,7 @@ use Rattle.layout.specs.Counts.{fieldCount}
 use Rattle.answers.specs.declared.Answer.the-variants.{Edit}
 use Rattle.answers.specs.declared.Tested.{Tested}
 use Rattle.answers.specs.declared.Tested.the-variants.{Passed, Refused}
+use Rattle.layout.specs.Fields.{atFeeder}
 use Rattle.layout.specs.List.{rows, field}
 
 -- the list with a new row in the place of row i, counted from 0
@@ -18,7 +19,7 @@ putList l i row = take (i * fieldCount) l ++ row ++ drop (i * fieldCount + field
 -- 10 EDIT: the place is that of a row, the new row is 18 numbers, its field 1 is the place, its field 2 is the list's there
 unfoldable pub editRight : List ℕ → ℕ → List ℕ → Bool
 editRight l place row =
-    (leb 1 place && leb place (rows l)) && (eqb (length row) fieldCount && (eqb (getD row 0 0) place && eqb (getD row 1 0) (field l (place - 1) 1)))
+    (leb 1 place && leb place (rows l)) && (eqb (length row) fieldCount && (eqb (getD row 0 0) place && eqb (getD row atFeeder 0) (field l (place - 1) atFeeder)))
 
 unfoldable pub editTest : List ℕ → ℕ → List ℕ → Tested
 editTest l place row = cond (editRight l place row) Passed (Refused Edit)

@@ -2,6 +2,7 @@
 use answers::Answer;
 use answers::Tested;
 use copy::put;
+use layout::AT_FEEDER;
 use layout::FIELDS;
 use layout::field_at;
 ghost use mathlib.Core.Path.{_≡_};
@@ -32,7 +33,7 @@ pub fn test_edit(list: &[u64], place: u64, row: &[u64]) -> Tested
     if row[0] != place {
         return Tested::Refused(Answer::Edit);
     }
-    if row[1] != field_at(list, (place - 1) as usize, 1) {
+    if row[AT_FEEDER] != field_at(list, (place - 1) as usize, AT_FEEDER) {
         return Tested::Refused(Answer::Edit);
     }
     Tested::Passed

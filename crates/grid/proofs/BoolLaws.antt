@@ -1,4 +1,4 @@
--- Tests: taken apart, joined, compared. Assumes nothing.
+-- Tests: taken apart, joined, compared.
 use mathlib.Core.Path.{_≡_, refl, sym, _∙_}
 use mathlib.Core.Bool.{Bool, true, false, not, _&&_, _||_, false≢true, true≢false}
 use mathlib.Core.Logic.{_⊎_, inl, inr, ⊎-elim}
@@ -32,6 +32,15 @@ and-right false b h = absurd (false≢true h)
 
 pub and-both : {a b : Bool} → a ≡ true → b ≡ true → (a && b) ≡ true
 and-both p q = rw (p, q)
+
+-- a test `a || b` that fails
+pub or-left : (a b : Bool) → (a || b) ≡ false → a ≡ false
+or-left true b h = h
+or-left false b h = refl
+
+pub or-right : (a b : Bool) → (a || b) ≡ false → b ≡ false
+or-right true b h = absurd (true≢false h)
+or-right false b h = h
 
 -- `not a || b` says: where a passes, b does
 pub implies : (a b : Bool) → (not a || b) ≡ true → a ≡ true → b ≡ true

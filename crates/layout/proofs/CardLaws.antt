@@ -6,7 +6,7 @@ use Prim.Native.Nat.{ℕ, zero, suc, _+_, _*_, _≤_, _<_}
 use native.Mathlib.Omega.{arith}
 use lib.ListN.{length, getD, take, drop}
 use lib.Seq.{length-sets}
-use Rattle.copy.proofs.BlockLaws.{sets-before, sets-behind, sets-is, block-own, block-other, drop-sets, blocks-agree}
+use Rattle.copy.proofs.BlockLaws.{sets-before, sets-behind, sets-stands, sets-is, block-own, block-other, drop-sets, blocks-agree}
 use Rattle.layout.specs.declared.CardRow.{CardRow}
 use Rattle.layout.specs.Counts.{columnCount}
 use Rattle.layout.specs.Card.{column, cardRowAt, columnsOf, putCardRow}
@@ -45,12 +45,11 @@ module _ (c : List ℕ) (i : ℕ) (k : CardRow) where
   putCardRow-drop n h = drop-sets (columnsOf k) c (i * columnCount) n h
 
 -- the row that stands there put in changes nothing, and put back after another gives the old card
-module _ (c : List ℕ) (i : ℕ) (h : i * columnCount + columnCount ≤ length c) where
-  pub putCardRow-stands : putCardRow c i (cardRowAt c i) ≡ c
-  unfolding putCardRow
-  putCardRow-stands =
-      sets-is (columnsOf (cardRowAt c i)) c c (i * columnCount) refl h (λ x b. refl) (λ x b. refl) (λ k b. sym (column-of c i k b))
+pub putCardRow-stands : (c : List ℕ) (i : ℕ) → putCardRow c i (cardRowAt c i) ≡ c
+unfolding putCardRow
+putCardRow-stands c i = sets-stands (columnsOf (cardRowAt c i)) c (i * columnCount) (λ k b. sym (column-of c i k b))
 
+module _ (c : List ℕ) (i : ℕ) (h : i * columnCount + columnCount ≤ length c) where
   pub putCardRow-back : (k : CardRow) → putCardRow (putCardRow c i k) i (cardRowAt c i) ≡ c
   unfolding putCardRow
   putCardRow-back k =

@@ -3,7 +3,6 @@ use mathlib.Core.Path.{_≡_, refl, _∙_, subst}
 use mathlib.Core.Bool.{Bool, true, false, _||_}
 use mathlib.Core.List.{List}
 use Prim.Native.Nat.{ℕ, _-_, _≤_, _<_}
-use native.Mathlib.Omega.{arith}
 use lib.Dec.{eqb}
 use Rattle.grid.proofs.FoldLaws.{sumTo-same, maxTo-same}
 use Rattle.layout.specs.Card.{cardRowAt}
@@ -51,5 +50,5 @@ module _ (l : List ℕ) (done matters : ℕ → Bool) (c s : List ℕ) (w : Work
       Working l done′ matters c (pushed (rowAt l i) (cardRowAt c i) s)
   push-next new done′ next =
       subst (λ (x : List ℕ). Working l done′ matters x (pushed (rowAt l i) (cardRowAt c i) s))
-      (putCardRow-stands c i (omega (arith, w .card-room)))
+      (putCardRow-stands c i)
       (work-next l done matters c s w i h new done′ next matters (λ j m. m) (cardRowAt c i) to)
