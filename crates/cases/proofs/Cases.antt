@@ -1,14 +1,14 @@
 -- The starred cases of section 7 hold, of the definitions that the contracts cite: the whole table computes to what document 01 says.
--- Assumes nothing.
 use mathlib.Core.Path.{_≡_, refl}
 use mathlib.Core.List.{map}
 use Rattle.grid.specs.First.{first}
 use Rattle.grid.specs.Fold.{sumTo, every}
 use Rattle.grid.specs.Grid.{count, valueAt, leastOn}
+use Rattle.layout.specs.Card.{putCardRow}
+use Rattle.layout.specs.Fields.{inBounds}
 use Rattle.rows.specs.Tests.{sizeTest, rowsTest, fieldRight, faultAfter, rowFault, feedsRight, treeAnswer, treeTest, fieldAnswer}
 use Rattle.settle.specs.Conditions.{returnsAfterSelfStart, clearOf, seesOwnZone, backsUp, withinDelays, margin, gradedAbove, staysClear, seesNear}
-use Rattle.settle.specs.Settle.{meetsPickup, meetsDelay, fitting, cutoffOf, printed, outcomeOf, settled}
-use Rattle.work.specs.Card.{putRow}
+use Rattle.settle.specs.Settle.{meetsPickup, meetsDelay, fitting, cutoffOf, printed, shown, outcomeOf, settled}
 use Rattle.work.specs.WorkOut.{onSettled, workOut, upFrom}
 use Rattle.whole.specs.Whole.{ending, after, calculation, whole}
 use Rattle.cases.specs.Cases.{Starred, comes, starred, table, twoRows, twoCard, blank, firstRow, underOne, pickups}
@@ -18,5 +18,8 @@ use Rattle.change.specs.Replace.{onPassed, reworked, outcome, replaced}
 use Rattle.path.specs.CardTest.{cardRight, cardAnswer, cardTest}
 
 pub cases : map (λ (s : Starred). comes (s .case)) table ≡ map (λ (s : Starred). s .is) table
-unfolding first sumTo every count valueAt leastOn sizeTest rowsTest fieldRight faultAfter rowFault feedsRight treeAnswer treeTest fieldAnswer returnsAfterSelfStart clearOf seesOwnZone backsUp withinDelays margin gradedAbove staysClear seesNear meetsPickup meetsDelay fitting cutoffOf printed outcomeOf settled putRow onSettled workOut upFrom ending after calculation whole comes starred table twoRows twoCard blank firstRow underOne pickups pathFrom pathOf putList editRight editTest cardRight cardAnswer cardTest onPassed reworked outcome replaced
+unfolding first sumTo every count valueAt leastOn sizeTest rowsTest inBounds fieldRight faultAfter rowFault feedsRight treeAnswer treeTest fieldAnswer
+    returnsAfterSelfStart clearOf seesOwnZone backsUp withinDelays margin gradedAbove staysClear seesNear meetsPickup meetsDelay fitting cutoffOf
+    printed shown outcomeOf settled putCardRow onSettled workOut upFrom ending after calculation whole comes starred table twoRows twoCard blank
+    firstRow underOne pickups pathFrom pathOf putList editRight editTest cardRight cardAnswer cardTest onPassed reworked outcome replaced
 cases = refl

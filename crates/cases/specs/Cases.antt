@@ -6,6 +6,7 @@ use lib.ListN.{set}
 use Rattle.answers.specs.declared.Answer.{Answer}
 use Rattle.answers.specs.declared.Answer.the-variants.{Done, Unsettled}
 use Rattle.answers.specs.declared.Reason.the-variants.{Pickup, Delay}
+use Rattle.layout.specs.View.{viewOf, Settings}
 use Rattle.settle.specs.Conditions.{eachFed, clearOf}
 use Rattle.whole.specs.Whole.{whole}
 use Rattle.change.specs.Replace.{replaced}
@@ -38,9 +39,9 @@ underOne =
     3 ∷ 0 ∷ 1 ∷ 6000 ∷ 100000 ∷ 1000 ∷ 1000 ∷ 900000 ∷ 1000000 ∷ 1800000 ∷ 1300 ∷ 50000 ∷ 5000000 ∷ 1000 ∷ 1 ∷ 0 ∷ 5000 ∷ 0 ∷ []
 
 -- the pickups of those two rows
-unfoldable pub pickups : ℕ → ℕ → ℕ → ℕ
-pickups a b zero = a
-pickups a b (suc j) = b
+unfoldable pub pickups : ℕ → ℕ → Settings
+pickups a b zero = record { pickup = a; delay = 0; cutoff = 0 }
+pickups a b (suc j) = record { pickup = b; delay = 0; cutoff = 0 }
 
 -- a case: a list calculated, a row replaced on a list and its card, or a pickup held against P2
 pub data Case : Type 0 where
@@ -59,7 +60,7 @@ blank = 0 ∷ 0 ∷ 0 ∷ 0 ∷ 0 ∷ 0 ∷ []
 unfoldable pub comes : Case → Comes
 comes (calculates l) = answers (whole l blank .answer) (whole l blank .card)
 comes (replaces l c place row) = answers (replaced l c place row .answer) (replaced l c place row .card)
-comes (clears a b I) = clear (eachFed underOne 2 (λ j. clearOf underOne (pickups a b) 2 j I))
+comes (clears a b I) = clear (eachFed (viewOf underOne) 2 (λ j. clearOf (viewOf underOne) (pickups a b) 2 j I))
 
 -- a case with what document 01 says of it
 pub record Starred : Type 0 where
