@@ -1,24 +1,24 @@
 -- What is printed for a text is what the printers leave, one law for each way that the text goes. Assumes nothing.
 use mathlib.Core.Path.{_≡_, refl, sym, ap, ap₂, _∙_, subst}
-use mathlib.Core.Bool.{true}
+use mathlib.Core.Bool.{true, cond}
 use mathlib.Core.List.{List, _∷_, _++_}
 use Prim.Native.Nat.{ℕ, zero, suc, _+_, _-_, _*_, _/_, _≤_, _<_, min}
 use native.Mathlib.Nat.{min-eq-left}
 use native.Mathlib.Omega.{arith}
+use lib.Dec.{eqb}
 use lib.ListN.{length, getD, take, drop, List·getD-append}
 use lib.Seq.{take-all, take-at, drop-append-le, length-take-le}
 use borrow.Author.Tests.{le-leb, lt-leb, eq-eqb, ne-eqb}
 use Rattle.grid.proofs.BoolLaws.{and-both}
 use Rattle.grid.proofs.FoldLaws.{every-of}
-use Rattle.answers.specs.declared.Answer.the-variants.{Count}
-use Rattle.answers.specs.declared.Given.{Given}
+use Rattle.answers.specs.declared.Answer.the-variants as answer
 use Rattle.answers.specs.Answer.{givenBy}
 use Rattle.rows.proofs.TestLaws.{size-over}
 use Rattle.line.specs.Line.{fieldCount}
 use Rattle.text.specs.declared.Reading.the-variants.{BadLine, Rows}
 use Rattle.text.specs.Names.{nameAtPlace, namesAt}
-use Rattle.text.specs.Text.{reading, readingNumber, readingPlace, rowNumbers, rowPlaces, over, blocksOver}
-use Rattle.print.specs.Card.{cardText, placeRight, printable, cardPrinted, refusalPrinted, Printed}
+use Rattle.text.specs.Text.{reading, rowNumbers, rowPlaces, over, blocksOver}
+use Rattle.print.specs.Card.{cardText, refusalText, placeRight, printable, cardPrinted, refusalPrinted, Printed}
 use Rattle.print.proofs.PrintLaws.{nothing-printed}
 use Rattle.whole.specs.Ready.{Gave}
 use Rattle.whole.specs.Whole.{whole}
@@ -88,37 +88,38 @@ module _ (s list names : List ℕ) (n room : ℕ) (r : RowsReady s list names n 
         (λ k h. rw names-is (right-front (length s) (rowPlaces s) _ k (omega (arith, stand .places-long)) (stand .inside k h))))
 
     -- the whole calculation of the numbers read
-    module _ (g : Given) (card : List ℕ) (z : Gave (whole (take (n * 18) list) blankCard) g card) where
+    module _ (g card : List ℕ) (z : Gave (whole (take (n * 18) list) blankCard) g card) where
       given-is : g ≡ givenBy (whole (rowNumbers s) blankCard .answer)
       given-is = z .numbers ∙ ap (λ (l : List ℕ). givenBy (whole l blankCard .answer)) numbers-front
 
       card-is : card ≡ whole (rowNumbers s) blankCard .card
       card-is = z .card ∙ ap (λ (l : List ℕ). whole l blankCard .card) numbers-front
 
-      reads-as : readText s (Rows n) ≡ givenText s g card
-      unfolding readText
-      reads-as = sym (ap₂ (givenText s) given-is card-is)
+      reads-as : readText s (Rows n) ≡ cond (eqb (getD g 0 0) 0) (cardText (namesOf s) card) (refusalText g)
+      unfolding readText givenText
+      reads-as = sym (ap₂ (λ (g card : List ℕ). cond (eqb (getD g 0 0) 0) (cardText (namesOf s) card) (refusalText g)) given-is card-is)
 
-      pub card-printed : g .number ≡ 0 → length card ≡ 768 → cardPrinted s names card n room ≡ readText s (Rows n)
-      unfolding cardPrinted givenText
-      card-printed e k = rw (can-print card k) (ap (λ (ns : List (List ℕ)). cardText ns card) all-names ∙ sym (reads-as ∙ rw (eq-eqb (g .number) 0 e)))
+      pub card-printed : getD g 0 0 ≡ 0 → length card ≡ 768 → cardPrinted s names card n room ≡ readText s (Rows n)
+      unfolding cardPrinted
+      card-printed e k = rw (can-print card k) (ap (λ (ns : List (List ℕ)). cardText ns card) all-names ∙ sym (reads-as ∙ rw (eq-eqb (getD g 0 0) 0 e)))
 
-      pub refusal-printed : (g .number ≡ 0 → ⊥) → refusalPrinted (g .number) (g .place) (g .field) room ≡ readText s (Rows n)
-      unfolding refusalPrinted givenText
-      refusal-printed e = rw (le-leb 85 room (let o = r .out-room in omega arith)) (sym (reads-as ∙ rw (ne-eqb (g .number) 0 e)))
+      pub refusal-printed : (getD g 0 0 ≡ 0 → ⊥) → refusalPrinted g room ≡ readText s (Rows n)
+      unfolding refusalPrinted
+      refusal-printed e = rw (le-leb 85 room (let o = r .out-room in omega arith)) (sym (reads-as ∙ rw (ne-eqb (getD g 0 0) 0 e)))
 
   -- more than 256 rows
-  pub many-printed : 256 < n → refusalPrinted 2 0 0 room ≡ readText s (Rows n)
+  pub many-printed : (g : List ℕ) → g ≡ givenBy answer.Count → 256 < n → refusalPrinted g room ≡ readText s (Rows n)
   unfolding refusalPrinted readText givenText
-  many-printed h =
-      let e : whole (rowNumbers s) blankCard .answer ≡ Count = sym (answered-size (rowNumbers s) blankCard _ Count refl (sym (size-over (length (rowNumbers s)) (length blankCard) (omega (arith, stand .numbers-long)) (omega (arith, stand .numbers-long)) (omega (arith, stand .numbers-long)))) .answer) in
-      rw (le-leb 85 room (let o = r .out-room in omega arith), e)
+  many-printed g q h =
+      let e : whole (rowNumbers s) blankCard .answer ≡ answer.Count = sym (answered-size (rowNumbers s) blankCard _ answer.Count refl (sym (size-over (length (rowNumbers s)) (length blankCard) (omega (arith, stand .numbers-long)) (omega (arith, stand .numbers-long)) (omega (arith, stand .numbers-long)))) .answer) in
+      rw (q, le-leb 85 room (let o = r .out-room in omega arith), e)
 
 -- a bad line, and a text that was read, in a buffer with room enough
 module _ (s : List ℕ) (room : ℕ) where
-  pub bad-printed : (line : ℕ) → sheetMost ≤ room → reading s ≡ BadLine line → refusalPrinted 1 line 0 room ≡ sheetPrinted s room
-  unfolding refusalPrinted sheetPrinted sheetText readText readingNumber readingPlace
-  bad-printed line h e = rw (le-leb 85 room (omega arith), le-leb sheetMost room h, e)
+  pub bad-printed :
+      (line : ℕ) (g : List ℕ) → g ≡ givenBy (answer.Text line) → sheetMost ≤ room → reading s ≡ BadLine line → refusalPrinted g room ≡ sheetPrinted s room
+  unfolding refusalPrinted sheetPrinted sheetText readText
+  bad-printed line g q h e = rw (q, le-leb 85 room (omega arith), le-leb sheetMost room h, e)
 
   pub read-printed : (n : ℕ) → sheetMost ≤ room → reading s ≡ Rows n → readText s (Rows n) ≡ sheetPrinted s room
   unfolding sheetPrinted sheetText

@@ -5,12 +5,13 @@ use mathlib.Core.List.{List, [], map}
 use Prim.Native.Nat.{ℕ}
 use lib.Dec.{leb, eqb}
 use lib.ListN.{replicate}
-use Rattle.answers.specs.declared.Given.{Given}
-use Rattle.answers.specs.Answer.{givenBy}
+use Rattle.answers.specs.declared.Answer.{Answer}
+use Rattle.answers.specs.declared.Answer.the-variants as answer
+use Rattle.answers.specs.Answer.{givenBy, numberOf}
 use Rattle.text.specs.declared.Reading.{Reading}
 use Rattle.text.specs.declared.Reading.the-variants.{BadLine, Rows}
 use Rattle.text.specs.Grammar.{Row, rowsOf}
-use Rattle.text.specs.Text.{reading, readingNumber, readingPlace, rowNumbers}
+use Rattle.text.specs.Text.{reading, rowNumbers}
 use Rattle.print.specs.Card.{cardText, refusalText}
 use Rattle.whole.specs.Whole.{whole}
 
@@ -22,14 +23,14 @@ namesOf s = map (λ (r : Row). r .name) (rowsOf s)
 unfoldable pub blankCard : List ℕ
 blankCard = replicate 768 0
 
--- what is printed for the numbers given back and the card: the card where the number is 0, and otherwise the refusal
-unfoldable pub givenText : List ℕ → Given → List ℕ → List ℕ
-givenText s g card = cond (eqb (g .number) 0) (cardText (namesOf s) card) (refusalText (g .number) (g .place) (g .field))
+-- what is printed for an answer and the card: the card where the number is 0, and otherwise the refusal
+unfoldable pub givenText : List ℕ → Answer → List ℕ → List ℕ
+givenText s a card = cond (eqb (numberOf a) 0) (cardText (namesOf s) card) (refusalText (givenBy a))
 
 -- what is printed for the reading of a text
 unfoldable pub readText : List ℕ → Reading → List ℕ
-readText s (BadLine line) = refusalText (readingNumber (BadLine line)) (readingPlace (BadLine line)) 0
-readText s (Rows n) = givenText s (givenBy (whole (rowNumbers s) blankCard .answer)) (whole (rowNumbers s) blankCard .card)
+readText s (BadLine line) = refusalText (givenBy (answer.Text line))
+readText s (Rows n) = givenText s (whole (rowNumbers s) blankCard .answer) (whole (rowNumbers s) blankCard .card)
 
 -- what is printed for a text
 unfoldable pub sheetText : List ℕ → List ℕ

@@ -1,4 +1,6 @@
 // From the text of a list to the printed card or refusal [01 §6].
+use answers::Answer;
+use answers::numbers;
 use print::print_card;
 use print::print_refusal;
 use text::Reading;
@@ -27,15 +29,15 @@ fn print_rows(text: &[u8], list: &[u64], names: &[u64], n: usize, out: &mut [u8]
     ensures { λ r. ⌜ Printed (now (out .entry)) (readText (now (text .entry)) (Rows n)) (now (out .exit)) r ⌝ }
 {
     if 256 < n {
-        return print_refusal(2, 0, 0, out);
+        return print_refusal(numbers(Answer::Count), out);
     }
     let mut card = [0u64; CARD];
     let end = n * 18;
     let given = whole(&list[..end], &mut card);
-    if given.number == 0 {
+    if given[0] == 0 {
         print_card(text, names, &card, n, out)
     } else {
-        print_refusal(given.number, given.place, given.field, out)
+        print_refusal(given, out)
     }
 }
 
@@ -50,7 +52,7 @@ pub fn sheet(text: &[u8], out: &mut [u8]) -> usize
     let mut names = [0u64; NAMES];
     let read = read_text(text, &mut list, &mut names);
     match read {
-        Reading::BadLine(line) => print_refusal(1, line, 0, out),
+        Reading::BadLine(line) => print_refusal(numbers(Answer::Text(line)), out),
         Reading::Rows(n) => print_rows(text, &list, &names, n, out),
     }
 }

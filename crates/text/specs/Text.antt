@@ -17,10 +17,6 @@ use Rattle.text.specs.Header.{header}
 abbrev pub textMost : ℕ
 textMost = 65536
 
--- a list has at most so many rows
-abbrev pub rowsMost : ℕ
-rowsMost = 256
-
 -- a byte put in front of the first line
 unfoldable pub onto : ℕ → List (List ℕ) → List (List ℕ)
 onto b [] = (b ∷ []) ∷ []
@@ -75,15 +71,6 @@ rowLines s = lines (afterLine s)
 -- what reading a text gives: the first bad line, the header being line 1, or how many rows there are
 unfoldable pub reading : List ℕ → Reading
 reading s = cond (sizeRight s) (cond (headed s) (linesRead 2 (rowLines s)) (BadLine 1)) (BadLine 0)
-
--- the number and the place that section 4 gives it: 1 TEXT with the line, 2 COUNT for no row or over 256 [01 §4]
-unfoldable pub readingNumber : Reading → ℕ
-readingNumber (BadLine k) = 1
-readingNumber (Rows n) = cond (leb 1 n && leb n rowsMost) 0 2
-
-unfoldable pub readingPlace : Reading → ℕ
-readingPlace (BadLine k) = k
-readingPlace (Rows n) = 0
 
 -- how many rows are read before the first bad line
 unfoldable pub rowsRead : List ℕ → ℕ

@@ -1,5 +1,4 @@
 -- `sheet::sheet` meets its contract: a buffer without room gets nothing, a bad line its refusal, and the rows read what `print_rows` prints.
--- Assumes nothing.
 use borrow.Author.Needs.{needs}
 use mathlib.Core.Path.{sym, _∙_}
 use Rattle.text.specs.Text.{roomFor, rowsRead, rowNumbers, rowPlaces}
@@ -22,6 +21,9 @@ read-text-requires c κs = search needs
 enum-known-read : tie.Need-enum-known-read
 enum-known-read c = search needs
 
+numbers-requires : tie.Need-numbers-requires
+numbers-requires c κs = search needs
+
 print-refusal-requires : tie.Need-print-refusal-requires
 print-refusal-requires c κs = search needs
 
@@ -37,16 +39,18 @@ slice-aggregate-print-rows-2 c = search needs
 print-rows-requires : tie.Need-print-rows-requires
 unfolding roomFor rowsRead rowNumbers rowPlaces
 print-rows-requires c κs =
-    let t = c .before .before .before .before .before .before .before .before .read-text .ensures in
+    let known = c .before .before .before .before in
+    let read = known .before .before .before .before in
+    let t = read .read-text .ensures in
     record {
-      read = sym (t .answer) ∙ c .before .before .before .before .read2 .given .1;
-      list-room = c .before .before .before .before .before .before .before .before .read-text .kept .1 .0;
-      names-room = c .before .before .before .before .before .before .before .before .read-text .kept .1 .1 .0;
+      read = sym (t .answer) ∙ known .read2 .given .1;
+      list-room = read .read-text .kept .1 .0;
+      names-room = read .read-text .kept .1 .1 .0;
       before-list = _;
       before-names = _;
       numbers = t .numbers;
       places = t .places;
-      out-room = c .before .before .before .before .before .before .before .before .before .before .before .if1 .left;
+      out-room = read .before .before .before .if1 .left;
     }
 
 same-length : tie.Need-same-length
@@ -54,8 +58,11 @@ same-length c = search needs
 
 returns-2 : tie.Need-returns-2
 returns-2 c =
+    let named = c .before .before .before .before in
+    let known = named .before .before in
+    let read = known .before .before .before .before in
     printed-as
-    (bad-printed _ _ _ (c .before .before .before .before .before .before .before .before .before .before .before .before .if1 .left) (sym (c .before .before .before .before .before .before .before .before .before .read-text .ensures .answer) ∙ c .before .before .before .before .before .read .given .1))
+    (bad-printed _ _ _ _ (named .numbers .ensures) (read .before .before .before .if1 .left) (sym (read .read-text .ensures .answer) ∙ known .read .given .1))
     (c .before .before .print-refusal .ensures)
 
 same-length-2 : tie.Need-same-length-2
@@ -63,8 +70,10 @@ same-length-2 c = search needs
 
 returns-3 : tie.Need-returns-3
 returns-3 c =
+    let known = c .before .before .before .before .before .before .before in
+    let read = known .before .before .before .before in
     printed-as
-    (read-printed _ _ _ (c .before .before .before .before .before .before .before .before .before .before .before .before .before .before .if1 .left) (sym (c .before .before .before .before .before .before .before .before .before .before .before .read-text .ensures .answer) ∙ c .before .before .before .before .before .before .before .read2 .given .1))
+    (read-printed _ _ _ (read .before .before .before .if1 .left) (sym (read .read-text .ensures .answer) ∙ known .read2 .given .1))
     (c .before .before .print-rows .ensures)
 
 pub sheet-spec : {M : Type 1} → statement M
@@ -76,6 +85,7 @@ sheet-spec =
     slice-aggregate-read-text-2
     read-text-requires
     enum-known-read
+    numbers-requires
     print-refusal-requires
     enum-known-read-2
     slice-aggregate-print-rows
