@@ -20,9 +20,9 @@ ghost use Rattle.print.specs.Card.{cardCount, lineText, rowsText, placeR
 const NAME_MOST: u64 = 24;
 
 // The bytes of the card's header, of one line of the card and of a refusal, at most.
-const HEADER: usize = 26;
+pub const HEADER: usize = 26;
 
-const LINE_MOST: usize = 24 + CARD * 21 + 2;
+pub const LINE_MOST: usize = 24 + CARD * 21 + 2;
 
 const REFUSAL_MOST: usize = 21 + 20 + (NUMBERS - 1) * 21 + 2;
 

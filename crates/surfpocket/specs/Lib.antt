@@ -1,1 +1,2 @@
 pub mod Studies
+pub mod Version

@@ -11,13 +11,13 @@ use study::refused;
 use whole::whole;
 ghost use mathlib.Core.Path.{_≡_};
 ghost use lib.ListN.{length};
-ghost use Rattle.print.specs.Card.{Printed};
 ghost use Rattle.change.specs.Replace.{replaced};
-ghost use Rattle.sheet.specs.Sheet.{sheetPrinted};
+ghost use Rattle.sheet.specs.Sheet.{sheetOf, fitted, Filled};
 ghost use Rattle.whole.specs.Whole.{whole};
 ghost use Rattle.whole.specs.Ready.{Gave};
 ghost use Rattle.change.specs.Ready.{Gave as GaveBoth};
 ghost use Rattle.surfpocket.specs.Studies.{unitOf, handed, studyOf};
+ghost use Rattle.surfpocket.specs.Version.{version};
 
 #[repr(C)]
 pub struct SurfpocketAnswer {
@@ -30,6 +30,22 @@ pub struct SurfpocketStudy {
     pub place: u64,
     pub greatest: u64,
     pub least: u64,
+}
+
+#[repr(C)]
+pub struct SurfpocketPrinted {
+    pub numbers: [u64; NUMBERS],
+    pub bytes: usize,
+}
+
+// It grows with every change of what is lent or given.
+const VERSION: u64 = 1;
+
+#[no_mangle]
+pub extern "C" fn surfpocket_version() -> u64
+    ensures { λ v. ⌜ v ≡ version ⌝ }
+{
+    VERSION
 }
 
 // The whole calculation [01 §4].
@@ -117,8 +133,13 @@ pub extern "C" fn surfpocket_study(
 
 // From the text of a list to its printed card or refusal [01 §6].
 #[no_mangle]
-pub extern "C" fn surfpocket_card(text: &[u8], out: &mut [u8]) -> usize
-    ensures { λ r. ⌜ Printed (now (out .entry)) (sheetPrinted (now (text .entry)) (length (now (out .entry)))) (now (out .exit)) r ⌝ }
+pub extern "C" fn surfpocket_card(text: &[u8], out: &mut [u8]) -> SurfpocketPrinted
+    ensures { λ a. ⌜ Filled (fitted (length (now (out .entry))) (sheetOf (now (text .entry)))) (now (out .entry)) (a .numbers) (a .bytes) (now (out .exit)) ⌝ }
 {
-    sheet(text, out)
+    let page = sheet(text, out);
+    let given = page.numbers;
+    SurfpocketPrinted {
+        numbers: given,
+        bytes: page.bytes,
+    }
 }

@@ -17,6 +17,10 @@ use Rattle.text.specs.Header.{header}
 abbrev pub textMost : ℕ
 textMost = 65536
 
+-- a list has at most so many rows
+abbrev pub rowsMost : ℕ
+rowsMost = 256
+
 -- a byte put in front of the first line
 unfoldable pub onto : ℕ → List (List ℕ) → List (List ℕ)
 onto b [] = (b ∷ []) ∷ []

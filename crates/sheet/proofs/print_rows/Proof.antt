@@ -1,26 +1,27 @@
 -- `sheet::print_rows` meets its contract: over 256 rows is COUNT; otherwise the numbers read are the list that is calculated, and the
 -- names' places lie inside the text.
 use borrow.Author.Needs.{needs}
+use mathlib.Core.Path.{refl}
 use Rattle.sheet.specs.Sheet.{blankCard}
-use Rattle.sheet.proofs.SheetLaws.{printed-as, part-long, card-printed, refusal-printed, many-printed}
+use Rattle.sheet.proofs.SheetLaws.{part-long, card-filled, refusal-filled, many-filled}
 use Rattle.sheet.proofs.print_rows.Statement.{statement}
 use Rattle.sheet.proofs.print_rows.Tie as tie
 
 numbers-requires : tie.Need-numbers-requires
 numbers-requires c κs = search needs
 
-print-refusal-requires : tie.Need-print-refusal-requires
-print-refusal-requires c κs = search needs
+refuse-requires : tie.Need-refuse-requires
+refuse-requires c κs = search needs
 
 same-length : tie.Need-same-length
 same-length c = search needs
 
 returns : tie.Need-returns
 returns c =
-    let counted = c .before .before .before .before in
+    let refused = c .before .before in
+    let counted = refused .before .before in
     let many = counted .before in
-    printed-as (many-printed _ _ _ _ _ (many .before .before .before .before .before .pre) _ (counted .numbers .ensures) (many .if1 .taken))
-    (c .before .before .print-refusal .ensures)
+    many-filled _ _ _ _ _ (many .before .before .before .before .before .pre) _ _ _ _ _ (counted .numbers .ensures) (many .if1 .taken) (refused .refuse .ensures)
 
 mul-end : tie.Need-mul-end
 mul-end c = search needs
@@ -45,9 +46,6 @@ slice-aggregate-print-card c = search needs
 print-card-requires : tie.Need-print-card-requires
 print-card-requires c κs = search needs
 
-print-refusal-requires-2 : tie.Need-print-refusal-requires-2
-print-refusal-requires-2 c κs = search needs
-
 same-length-2 : tie.Need-same-length-2
 same-length-2 c = search needs
 
@@ -58,9 +56,11 @@ returns-2 c =
     let worked = done .before .before in
     let few = worked .before .before .before in
     let start = few .before .before .before .before .before in
-    printed-as
-    (card-printed _ _ _ _ _ (start .pre) (few .if1 .left) _ _ (worked .whole .ensures) (done .if2 .taken) (worked .whole .kept .1 .0))
+    card-filled _ _ _ _ _ (start .pre) (few .if1 .left) _ _ (worked .whole .ensures) _ _ _ refl (worked .whole .kept .1 .0) (done .if2 .taken)
     (c .before .before .print-card .ensures)
+
+refuse-requires-2 : tie.Need-refuse-requires-2
+refuse-requires-2 c κs = search needs
 
 same-length-3 : tie.Need-same-length-3
 same-length-3 c = search needs
@@ -72,15 +72,14 @@ returns-3 c =
     let worked = refused .before .before in
     let few = worked .before .before .before in
     let start = few .before .before .before .before .before in
-    printed-as (refusal-printed _ _ _ _ _ (start .pre) (few .if1 .left) _ _ (worked .whole .ensures) (refused .if2 .left))
-    (c .before .before .print-refusal2 .ensures)
+    refusal-filled _ _ _ _ _ (start .pre) (few .if1 .left) _ _ (worked .whole .ensures) _ _ _ _ (refused .if2 .left) (c .before .before .refuse2 .ensures)
 
 pub print-rows-spec : {M : Type 1} → statement M
 print-rows-spec =
     tie.close
     (tie.spec
     numbers-requires
-    print-refusal-requires
+    refuse-requires
     same-length
     returns
     mul-end
@@ -90,8 +89,8 @@ print-rows-spec =
     array-read-if2
     slice-aggregate-print-card
     print-card-requires
-    print-refusal-requires-2
     same-length-2
     returns-2
+    refuse-requires-2
     same-length-3
     returns-3)
