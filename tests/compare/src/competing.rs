@@ -1,11 +1,11 @@
-//! Faults two at a time, where section 4's order decides: a list or a
-//! replacement refused with one number as it stands, and with another once a
-//! fault is added that leaves the first one in it.
+//! Faults two at a time, where section 4's order decides: one is put into an
+//! accepted list or a replacement that is done, then another that leaves the
+//! first in it.
 
 use crate::run::{Found, Group, Item, Kind, Seen};
 use crate::{changes, lists};
 use second::answer::*;
-use second::generate::{lent_card, list, Change, Lent, Replacement, Rng};
+use second::generate::{lent_card, Change, Lent, Replacement, Rng};
 use second::row::{CARD_NUMBERS, FIELDS};
 
 /// The order for a replacement, stage by stage; for a whole calculation it is
@@ -26,8 +26,8 @@ const OF_REPLACEMENTS: [u64; 2] = [EDIT, CARD];
 pub const LIST_PAIRS: Group = Group {
     name: "competing refusals of lists",
     wanted: || {
-        let of_lists = |number| !OF_REPLACEMENTS.contains(&number);
-        pairs().into_iter().filter(|&(over, under)| of_lists(over) && of_lists(under)).collect()
+        let of_lists = |&(over, under): &Item| of_lists(&[over, under]).len() == 2;
+        pairs().into_iter().filter(of_lists).collect()
     },
     label,
 };
@@ -58,8 +58,8 @@ fn rivals(number: u64) -> Vec<u64> {
     rivals
 }
 
-/// Within a stage the number that comes first in a row must be seen to do so
-/// in one row; otherwise any other answer will do.
+/// Another answer than before was given over it. Of two numbers that are tried
+/// in each row, the first counts only where it was given in the same row.
 fn note(group: &Group, before: Answer, after: Answer, seen: &mut Seen) {
     let stage = |number| ORDER.iter().position(|stage| stage.contains(&number));
     let at = |number| ORDER.concat().iter().position(|&of| of == number);
@@ -72,25 +72,23 @@ fn note(group: &Group, before: Answer, after: Answer, seen: &mut Seen) {
 
 fn list_twice(_: u64, seed: u64, seen: &mut Seen) -> Found {
     let mut rng = Rng::new(seed);
-    let mut lent = lists::with_room(list(rng.any()), seed);
-    let rows: Vec<u64> = (1..=(lent.list.len() / FIELDS) as u64).collect();
-    if rng.chance(60) {
-        let (first, row) = (rng.pick(&[ROOM, FIELD, TREE]), rng.pick(&rows));
-        add_fault(&mut rng, first, row, &mut lent);
-    }
+    let (list, _, card) = changes::accepted(rng.any());
+    let rows: Vec<u64> = (1..=(list.len() / FIELDS) as u64).collect();
+    let mut lent = Lent { list, card };
+    let (first, row) = (rng.pick(&of_lists(&ORDER[1..].concat())), rng.pick(&rows));
+    add_fault(&mut rng, first, row, &mut lent);
     let before = lists::same(&lent, seen)?;
-    if before == Answer::DONE {
-        return Ok(());
-    }
-    for number in rivals(before.number) {
-        if !OF_REPLACEMENTS.contains(&number) {
-            let mut worse = lent.clone();
-            let row = up_to(&mut rng, &rows, before);
-            add_fault(&mut rng, number, row, &mut worse);
-            note(&LIST_PAIRS, before, lists::same(&worse, seen)?, seen);
-        }
+    for number in of_lists(&rivals(before.number)) {
+        let mut worse = lent.clone();
+        let row = up_to(&mut rng, &rows, before);
+        add_fault(&mut rng, number, row, &mut worse);
+        note(&LIST_PAIRS, before, lists::same(&worse, seen)?, seen);
     }
     Ok(())
+}
+
+fn of_lists(numbers: &[u64]) -> Vec<u64> {
+    numbers.iter().copied().filter(|number| !OF_REPLACEMENTS.contains(number)).collect()
 }
 
 /// One of the rows up to the one that the refusal names, that one as often as not.
@@ -147,13 +145,13 @@ enum WrongEdit {
 
 impl Made {
     fn add_fault(&mut self, rng: &mut Rng, number: u64, row: u64) {
-        let count = (self.lent.list.len() / FIELDS) as u64;
-        let places = [0, count + 1].map(WrongEdit::Place);
-        let wrong = [places[0], places[1], WrongEdit::Row, WrongEdit::FeedsFrom, WrongEdit::Length];
-        match number {
-            EDIT => self.wrong = Some(rng.pick(&wrong)),
-            _ => add_fault(rng, number, row, &mut self.lent),
+        if number != EDIT {
+            return add_fault(rng, number, row, &mut self.lent);
         }
+        let past = WrongEdit::Place((self.lent.list.len() / FIELDS) as u64 + 1);
+        let at_0 = WrongEdit::Place(0);
+        let wrong = [at_0, past, WrongEdit::Row, WrongEdit::FeedsFrom, WrongEdit::Length];
+        self.wrong = Some(rng.pick(&wrong));
     }
 
     /// The list with the old row, fed as the new one is, and the new row beside it.

@@ -133,7 +133,7 @@ fn any_bytes(_: u64, seed: u64, seen: &mut Seen) -> Found {
 
 /// A refused text, the same with a bad last line, and that with too many bytes.
 fn twice(_: u64, seed: u64, seen: &mut Seen) -> Found {
-    let list = if seed % 2 == 0 { damaged(seed).list } else { list(seed) };
+    let list = if seed.is_multiple_of(2) { damaged(seed).list } else { list(seed) };
     let text = text(&list, seed);
     let bad_line = [&text[..], b"x"].concat();
     let mut too_long = bad_line.clone();
