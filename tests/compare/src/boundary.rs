@@ -2,6 +2,7 @@
 
 use second::answer::Answer;
 use second::study::StudyAnswer;
+use std::ptr;
 
 #[repr(C)]
 struct SurfpocketAnswer {
@@ -53,22 +54,38 @@ extern "C" {
     ) -> usize;
 }
 
+/// An empty buffer goes over as NULL, as C callers have it.
+fn pointer<T>(lent: &[T]) -> *const T {
+    if lent.is_empty() {
+        ptr::null()
+    } else {
+        lent.as_ptr()
+    }
+}
+
+fn pointer_mut<T>(lent: &mut [T]) -> *mut T {
+    if lent.is_empty() {
+        ptr::null_mut()
+    } else {
+        lent.as_mut_ptr()
+    }
+}
+
 fn answered(given: SurfpocketAnswer) -> Answer {
     Answer { number: given.number, place: given.place, field: given.field }
 }
 
 pub fn whole(list: &[u64], card: &mut [u64]) -> Answer {
+    let (l, c) = (pointer(list), pointer_mut(card));
     // SAFETY: both slices are valid for their lengths, and the function is
     // proved to read and write nothing else.
-    answered(unsafe { surfpocket_whole(list.as_ptr(), list.len(), card.as_mut_ptr(), card.len()) })
+    answered(unsafe { surfpocket_whole(l, list.len(), c, card.len()) })
 }
 
 pub fn replace(list: &mut [u64], card: &mut [u64], place: u64, row: &[u64]) -> Answer {
-    let (l, c) = (list.as_mut_ptr(), card.as_mut_ptr());
+    let (l, c, r) = (pointer_mut(list), pointer_mut(card), pointer(row));
     // SAFETY: as above; the three slices do not overlap.
-    answered(unsafe {
-        surfpocket_replace(l, list.len(), c, card.len(), place, row.as_ptr(), row.len())
-    })
+    answered(unsafe { surfpocket_replace(l, list.len(), c, card.len(), place, r, row.len()) })
 }
 
 /// A reading as the boundary takes it: the unit by number, the single by bits.
@@ -108,6 +125,7 @@ pub const CARD_ROOM: usize = 22_810;
 
 /// How many bytes of `out` were written: a card or a refusal, or nothing for want of room.
 pub fn card(text: &[u8], out: &mut [u8]) -> usize {
+    let (t, o) = (pointer(text), pointer_mut(out));
     // SAFETY: as for `whole`.
-    unsafe { surfpocket_card(text.as_ptr(), text.len(), out.as_mut_ptr(), out.len()) }
+    unsafe { surfpocket_card(t, text.len(), o, out.len()) }
 }

@@ -53,16 +53,22 @@ pub fn check_refused(score: &mut Score, seen: &Seen) {
 
 /// Any list with any card, the card's own numbers read off the path.
 fn one(_: u64, seed: u64, seen: &mut Seen) -> Found {
-    let lent = replacement(seed);
+    same(&replacement(seed), seen).map(|_| ())
+}
+
+/// Both programs on the same list, card and change. They must agree in number,
+/// place, field and every number of list and card.
+pub fn same(lent: &Replacement, seen: &mut Seen) -> Result<Answer, String> {
+    let Change { place, row } = &lent.change;
     let (mut list, mut card) = (lent.list.clone(), lent.card.clone());
     let (mut list2, mut card2) = (lent.list.clone(), lent.card.clone());
-    let answer = boundary::replace(&mut list, &mut card, lent.change.place, &lent.change.row);
-    let expected = replace(&mut list2, &mut card2, lent.change.place, &lent.change.row);
+    let answer = boundary::replace(&mut list, &mut card, *place, row);
+    let expected = replace(&mut list2, &mut card2, *place, row);
     if answer != expected || list != list2 || card != card2 {
-        return Err(format!("{answer:?}, not {expected:?}, or the buffers differ: seed {seed}"));
+        return Err(format!("{answer:?}, not {expected:?}, or the buffers differ: {lent:?}"));
     }
     note(answer, seen);
-    Ok(())
+    Ok(answer)
 }
 
 fn note(answer: Answer, seen: &mut Seen) {
@@ -70,8 +76,8 @@ fn note(answer: Answer, seen: &mut Seen) {
     seen.note(&NUMBERS, (answer.number, 0));
 }
 
-/// An accepted list, and its card as the whole calculation left it.
-fn accepted(seed: u64) -> (Vec<u64>, Vec<u64>, Vec<u64>) {
+/// An accepted list, a card lent for it, and that card as the whole calculation left it.
+pub fn accepted(seed: u64) -> (Vec<u64>, Vec<u64>, Vec<u64>) {
     let mut rng = Rng::new(seed);
     loop {
         let made = list(rng.any());

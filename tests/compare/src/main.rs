@@ -1,12 +1,12 @@
-//! `compare [--seed N] [--short | --long]`: the proved library against the
-//! second program. `compare singles [--all]`: singles against doubles, a part
-//! or all.
+//! `compare [--seed N] [--all-singles | --long]`: the proved library against
+//! the second program. `compare singles [--all]`: singles alone, a part or all.
+//! Where no seed is given it is the day's, and it is printed.
 
 use compare::run::{Score, Seen};
-use compare::{changes, competing, lists, singles, studies, texts};
+use compare::singles::{self, Part};
+use compare::{changes, competing, lists, studies, texts};
 use std::process::ExitCode;
-use std::slice;
-use std::time::Instant;
+use std::time::{Instant, SystemTime, UNIX_EPOCH};
 
 /// Fewer texts compared fail the run.
 const LEAST_TEXTS: u64 = 200_000;
@@ -14,27 +14,26 @@ const LEAST_TEXTS: u64 = 200_000;
 /// How much a run compares.
 struct Length {
     /// How often each kind's cases are taken, every time with other seeds.
-    times: u64,
-    /// The step through the patterns of singles; each meets every exponent.
-    step: u64,
+    passes: u64,
+    all_singles: bool,
 }
 
-const SHORT: Length = Length { times: 1, step: 1_021 };
-const GATE: Length = Length { times: 14, step: 1 };
-const LONG: Length = Length { times: 140, step: 1 };
+const GATE: Length = Length { passes: 1, all_singles: false };
+const GATE_ALL_SINGLES: Length = Length { passes: 1, all_singles: true };
+const LONG: Length = Length { passes: 10, all_singles: true };
 
-const USAGE: &str = "compare [--seed N] [--short | --long] | compare singles [--all]";
+const USAGE: &str = "compare [--seed N] [--all-singles | --long] | compare singles [--all]";
 
 fn main() -> ExitCode {
     let words: Vec<String> = std::env::args().skip(1).collect();
     let words: Vec<&str> = words.iter().map(String::as_str).collect();
     let command = match words[..] {
-        ["singles"] => Some(measure_singles(SHORT.step)),
-        ["singles", "--all"] => Some(measure_singles(1)),
+        ["singles"] => Some(singles_alone(Part::of_seed(today()))),
+        ["singles", "--all"] => Some(singles_alone(singles::ALL)),
         ["--seed", seed, ref length @ ..] => {
             seed.parse().ok().and_then(|seed| Some(compare_all(seed, named(length)?)))
         }
-        ref length => named(length).map(|length| compare_all(1, length)),
+        ref length => named(length).map(|length| compare_all(today(), length)),
     };
     command.unwrap_or_else(|| {
         eprintln!("{USAGE}");
@@ -45,54 +44,61 @@ fn main() -> ExitCode {
 fn named(length: &[&str]) -> Option<Length> {
     match length {
         [] => Some(GATE),
-        ["--short"] => Some(SHORT),
+        ["--all-singles"] => Some(GATE_ALL_SINGLES),
         ["--long"] => Some(LONG),
         _ => None,
     }
 }
 
-fn compare_all(seed: u64, Length { times, step }: Length) -> ExitCode {
+/// The days since 1970-01-01, by UTC.
+fn today() -> u64 {
+    let since = SystemTime::now().duration_since(UNIX_EPOCH).expect("a clock past 1970");
+    since.as_secs() / (24 * 60 * 60)
+}
+
+fn compare_all(seed: u64, Length { passes, all_singles }: Length) -> ExitCode {
     println!("seed {seed}");
     let (mut score, mut whole) = (Score::default(), Seen::default());
     let (mut study, mut text, mut change) = (Seen::default(), Seen::default(), Seen::default());
-    score.run(&lists::KINDS, seed, times, &mut whole);
-    score.run(slice::from_ref(&competing::KIND), seed, times, &mut whole);
+    score.run(&lists::KINDS, seed, passes, &mut whole);
+    score.run(&[competing::LISTS], seed, passes, &mut whole);
     let share = 100 * whole.accepted / whole.compared.max(1);
     let line = format!("{} lists, {} accepted, {share} percent", whole.compared, whole.accepted);
     score.count((30..=70).contains(&share), &line);
     lists::GROUPS.iter().for_each(|group| score.check(group, &whole));
-    score.check(&competing::PAIRS, &whole);
-    score.run(&changes::KINDS, seed, times, &mut change);
+    score.check(&competing::LIST_PAIRS, &whole);
+    score.run(&changes::KINDS, seed, passes, &mut change);
+    score.run(&[competing::REPLACEMENTS], seed, passes, &mut change);
     changes::GROUPS.iter().for_each(|group| score.check(group, &change));
     changes::check_refused(&mut score, &change);
-    score.run(&studies::KINDS, seed, times, &mut study);
+    score.check(&competing::REPLACEMENT_PAIRS, &change);
+    score.run(&studies::KINDS, seed, passes, &mut study);
     studies::GROUPS.iter().for_each(|group| score.check(group, &study));
-    score.run(&texts::KINDS, seed, times, &mut text);
+    score.run(&texts::KINDS, seed, passes, &mut text);
     let line = format!("{} texts, {} accepted", text.compared, text.accepted);
     score.count(text.compared >= LEAST_TEXTS, &line);
     texts::GROUPS.iter().for_each(|group| score.check(group, &text));
-    match singles::compare(step, false) {
-        Ok(compared) => score.count(true, &format!("singles, one in {step}: {compared} compared")),
-        Err(difference) => score.count(false, &format!("singles: {difference}")),
-    }
+    compare_singles(if all_singles { singles::ALL } else { Part::of_seed(seed) }, &mut score);
     println!("compare: {} passed, {} failed", score.passed, score.failed);
     ExitCode::from(u8::from(score.failed > 0))
 }
 
-fn measure_singles(step: u64) -> ExitCode {
-    let start = Instant::now();
-    let found = singles::compare(step, true);
+fn compare_singles(part: Part, score: &mut Score) {
+    let (start, step) = (Instant::now(), part.step);
+    let found = singles::compare(part);
     let seconds = start.elapsed().as_secs_f64();
     match found {
         Ok(compared) => {
-            let whole = seconds * step as f64;
-            println!("{compared} readings, {seconds:.1} s; all patterns take about {whole:.0} s");
-            println!("compare: 1 passed, 0 failed");
-            ExitCode::SUCCESS
+            let line = format!("singles, one in {step}: {compared} readings, {seconds:.1} s");
+            score.count(true, &line);
         }
-        Err(difference) => {
-            println!("{difference}\ncompare: 0 passed, 1 failed");
-            ExitCode::FAILURE
-        }
+        Err(difference) => score.count(false, &format!("singles: {difference}")),
     }
+}
+
+fn singles_alone(part: Part) -> ExitCode {
+    let mut score = Score::default();
+    compare_singles(part, &mut score);
+    println!("compare: {} passed, {} failed", score.passed, score.failed);
+    ExitCode::from(u8::from(score.failed > 0))
 }

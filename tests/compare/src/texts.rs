@@ -6,7 +6,7 @@ use crate::lists::name_of;
 use crate::run::{Found, Group, Item, Kind, Seen};
 use second::answer::*;
 use second::generate::*;
-use second::text::card;
+use second::text::{card, MOST_BYTES};
 
 /// A number and whether it names a place: TEXT does so or not, by what is wrong.
 /// ROOM cannot be given: the card lent for a text has room for 256 rows.
@@ -26,9 +26,20 @@ pub const ROOMS: Group = Group {
     label: |item| ["short", "exact", "more"][item.0 as usize].to_string(),
 };
 
-pub const GROUPS: [Group; 2] = [NUMBERS, ROOMS];
+/// TEXT at a line, or at none for its size, over the number given without what is wrong there.
+pub const PAIRS: Group = Group {
+    name: "competing refusals of texts",
+    wanted: || {
+        let under = [COUNT, FIELD, TREE, PICKUP, DELAY];
+        let (line, size) = (under.map(|number| (1, number)), under.map(|number| (0, number)));
+        [&line[..], &size, &[(0, TEXT)]].concat()
+    },
+    label: |item| format!("{} over {}", ["size", "line"][item.0 as usize], name_of(item.1)),
+};
 
-pub const KINDS: [Kind; 8] = [
+pub const GROUPS: [Group; 3] = [NUMBERS, ROOMS, PAIRS];
+
+pub const KINDS: [Kind; 9] = [
     Kind { name: "texts at the bounds", cases: 1, case: bounded_texts::compare },
     Kind { name: "every byte in every column", cases: 19, case: bounded_texts::every_byte },
     Kind { name: "well-formed texts", cases: 30_000, case: well_formed },
@@ -37,6 +48,7 @@ pub const KINDS: [Kind; 8] = [
     Kind { name: "texts of damaged lists", cases: 20_000, case: of_damaged_lists },
     Kind { name: "any bytes", cases: 20_000, case: any_bytes },
     Kind { name: "texts with other rooms", cases: 2_000, case: rooms },
+    Kind { name: "texts at fault twice", cases: 2_000, case: twice },
 ];
 
 /// Both programs on the same text, byte for byte; a guard on each side of the
@@ -117,6 +129,23 @@ fn any_bytes(_: u64, seed: u64, seen: &mut Seen) -> Found {
         text.push(if telling { rng.pick(b"\",\r\n01aF~") } else { any });
     }
     ample(&text, seed, seen)
+}
+
+/// A refused text, the same with a bad last line, and that with too many bytes.
+fn twice(_: u64, seed: u64, seen: &mut Seen) -> Found {
+    let list = if seed.is_multiple_of(2) { damaged(seed).list } else { list(seed) };
+    let text = text(&list, seed);
+    let bad_line = [&text[..], b"x"].concat();
+    let mut too_long = bad_line.clone();
+    too_long.resize(bad_line.len().max(MOST_BYTES + 1), b'x');
+    let [one, two, three] = [text, bad_line, too_long].map(|text| same(&text, CARD_ROOM, seen));
+    let [first, line, size] = [one?, two?, three?];
+    for (over, under) in [(line, first), (size, first), (size, line)] {
+        if under.0 != DONE && over != under {
+            seen.note(&PAIRS, (over.1.min(1), under.0));
+        }
+    }
+    Ok(())
 }
 
 /// None, one short, exactly, one more, and any.
