@@ -5,16 +5,17 @@
    What is assumed of a caller:
    - A pointer is good for the length that follows it, counted in numbers of 64 bits (aligned for them) or, for a text, in bytes.
      NULL with length 0 is allowed everywhere and counts as an empty buffer.
-   - Lent buffers do not overlap: neither list and card, nor text and out, nor the new row of a replacement and the list. A row that
-     points into the list is overlap: copy it out first.
+   - Lent buffers do not overlap: neither list and card, nor text and out, nor the new row of a replacement and list or card. A row
+     that points into the list is overlap: copy it out first.
    - Nobody else reads or writes a lent buffer during the call. A buffer without const must be writable: a replacement that is
      refused may write list and card and put both back.
    - The caller was compiled with the header of the library that it is linked with: see SURFPOCKET_VERSION.
-   - There is stack enough. Measured with 256 rows on x86-64, in bytes; leave slack above them:
-         surfpocket_whole      18,000
-         surfpocket_replace    74,000   (the first row of a chain; 12,000 and 240 for each row from the replaced one to the source)
-         surfpocket_study       1,000
-         surfpocket_card       66,000
+   - There is stack enough. Measured on x86-64 with 256 rows, and rounded up:
+         surfpocket_whole      20 KiB
+         surfpocket_replace    80 KiB for the first row of a chain: 12 KiB, and 240 bytes a row from the new one to the source
+         surfpocket_study       1 KiB
+         surfpocket_card       72 KiB
+     A thread made for such a call needs what the thread itself takes besides.
 
    The functions keep nothing between calls, take no lock and use no heap, so threads may call them at once. Every input that meets
    these assumptions gets an answer. A refusal leaves list and card as they were lent. */
@@ -33,7 +34,8 @@ extern "C" {
 #define SURFPOCKET_VERSION 1
 uint64_t surfpocket_version(void);
 
-/* A row of a list is SURFPOCKET_SIZE_FIELDS numbers, in the order of the README's table; a row of a card is
+/* Sizes. The first two grow in later versions, so use their names.
+   A row of a list is SURFPOCKET_SIZE_FIELDS numbers, in the order of the README's table; a row of a card is
    SURFPOCKET_SIZE_COLUMNS: pickup in mA, delay in ms, cutoff in mA or 0 for none. */
 #define SURFPOCKET_SIZE_FIELDS 18
 #define SURFPOCKET_SIZE_COLUMNS 3
