@@ -14,7 +14,7 @@
          surfpocket_whole      20 KiB
          surfpocket_replace    80 KiB for the first row of a chain: 12 KiB, and 240 bytes a row from the new one to the source
          surfpocket_study       1 KiB
-         surfpocket_card       72 KiB
+         surfpocket_card       96 KiB
      A thread made for such a call needs what the thread itself takes besides.
 
    The functions keep nothing between calls, take no lock and use no heap, so threads may call them at once. Every input that meets
