@@ -1,8 +1,24 @@
 /* Surfpocket: settings cards of overcurrent relays, worked out by proved code.
 
-   `rt staticlib surfpocket` makes target/staticlib/libsurfpocket.a to link. The functions keep nothing between calls, take no lock
-   and use no heap. A pointer must be good for the length that follows it (not null, even where the length is 0), counted in numbers
-   of 64 bits or, for a text, in bytes, and lent buffers must not overlap. */
+   `rt staticlib surfpocket` makes target/staticlib/libsurfpocket.a to link.
+
+   What is assumed of a caller:
+   - A pointer is good for the length that follows it, counted in numbers of 64 bits (aligned for them) or, for a text, in bytes.
+     NULL with length 0 is allowed everywhere and counts as an empty buffer.
+   - Lent buffers do not overlap: neither list and card, nor text and out, nor the new row of a replacement and list or card. A row
+     that points into the list is overlap: copy it out first.
+   - Nobody else reads or writes a lent buffer during the call. A buffer without const must be writable: a replacement that is
+     refused may write list and card and put both back.
+   - The caller was compiled with the header of the library that it is linked with: see SURFPOCKET_VERSION.
+   - There is stack enough. Measured on x86-64 with 256 rows, and rounded up:
+         surfpocket_whole      20 KiB
+         surfpocket_replace    80 KiB for the first row of a chain: 12 KiB, and 240 bytes a row from the new one to the source
+         surfpocket_study       1 KiB
+         surfpocket_card       96 KiB
+     A thread made for such a call needs what the thread itself takes besides.
+
+   The functions keep nothing between calls, take no lock and use no heap, so threads may call them at once. Every input that meets
+   these assumptions gets an answer. A refusal leaves list and card as they were lent. */
 #ifndef SURFPOCKET_H
 #define SURFPOCKET_H
 
@@ -13,34 +29,39 @@
 extern "C" {
 #endif
 
-/* A row of a list is SURFPOCKET_FIELDS numbers, a row of a card SURFPOCKET_CARD_NUMBERS: pickup, delay and cutoff. */
-#define SURFPOCKET_FIELDS 18
-#define SURFPOCKET_CARD_NUMBERS 3
-#define SURFPOCKET_MOST_ROWS 256
-
-/* Room, in bytes, for any printed card or refusal. */
-#define SURFPOCKET_CARD_ROOM 22810
-
-/* What this header declares; surfpocket_version() gives the library's. It grows with every change of what is lent or given. */
+/* Grows with every change of a number or a struct of this header. A caller built with another header than the library's would be
+   misread in silence: where that can happen, as with a shared object, compare the two first, and stop if they differ. */
 #define SURFPOCKET_VERSION 1
+uint64_t surfpocket_version(void);
+
+/* Sizes. The first two grow in later versions, so use their names.
+   A row of a list is SURFPOCKET_SIZE_FIELDS numbers, in the order of the README's table; a row of a card is
+   SURFPOCKET_SIZE_COLUMNS: pickup in mA, delay in ms, cutoff in mA or 0 for none. */
+#define SURFPOCKET_SIZE_FIELDS 18
+#define SURFPOCKET_SIZE_COLUMNS 3
+/* The most rows of a list, and the most bytes of its text. */
+#define SURFPOCKET_SIZE_ROWS 256
+#define SURFPOCKET_SIZE_TEXT 65536
+/* Bytes that suffice for every card that surfpocket_card prints. */
+#define SURFPOCKET_SIZE_PRINTED 22810
 
 /* The numbers given back. */
 #define SURFPOCKET_DONE 0
-#define SURFPOCKET_TEXT 1
-#define SURFPOCKET_COUNT 2
-#define SURFPOCKET_ROOM 3
-#define SURFPOCKET_FIELD 4
-#define SURFPOCKET_TREE 5
-#define SURFPOCKET_PICKUP 6
-#define SURFPOCKET_DELAY 7
-#define SURFPOCKET_STUDY 8
-#define SURFPOCKET_CARD 9
-#define SURFPOCKET_EDIT 10
+#define SURFPOCKET_REFUSED_TEXT 1
+#define SURFPOCKET_REFUSED_COUNT 2
+#define SURFPOCKET_REFUSED_ROOM 3
+#define SURFPOCKET_REFUSED_FIELD 4
+#define SURFPOCKET_REFUSED_TREE 5
+#define SURFPOCKET_REFUSED_PICKUP 6
+#define SURFPOCKET_REFUSED_DELAY 7
+#define SURFPOCKET_REFUSED_STUDY 8
+#define SURFPOCKET_REFUSED_CARD 9
+#define SURFPOCKET_REFUSED_EDIT 10
 
 /* The units of a reading. */
-#define SURFPOCKET_AMPERES 1
-#define SURFPOCKET_KILOAMPERES 2
-#define SURFPOCKET_PER_UNIT 3
+#define SURFPOCKET_UNIT_AMPERES 1
+#define SURFPOCKET_UNIT_KILOAMPERES 2
+#define SURFPOCKET_UNIT_PER_UNIT 3
 
 /* Number, place (a row from 1, or 0) and, for FIELD, the field from 1. */
 typedef struct {
@@ -57,35 +78,43 @@ typedef struct {
     uint64_t least;
 } SurfpocketStudy;
 
-/* Number, place (a line or a row from 1, or 0), for FIELD the field from 1, and how many bytes were written. */
+/* As SurfpocketAnswer, for TEXT with the line as its place, and how many bytes were written. */
 typedef struct {
     uint64_t number;
     uint64_t place;
     uint64_t field;
-    size_t bytes;
+    uint64_t bytes;
 } SurfpocketPrinted;
 
-uint64_t surfpocket_version(void);
-
-/* The whole calculation: gives DONE and writes the settings of each row to the front of the card, or gives the first refusal in the
-   order of the rules and leaves the card as it was. The list, and a card's numbers past its rows, are never changed. */
+/* The whole calculation: gives DONE and writes the settings of each row to the front of the card, or gives the first refusal and
+   leaves the card as it was. The card's numbers past its rows stay.
+   Order: COUNT (no row, over 256, or a partial row: a length that is no multiple of 18), ROOM (fewer than 3 card numbers a row),
+   FIELD over all rows ascending (in a row its fields ascending, then low above high, which is field 12), TREE over all rows
+   ascending, then row by row PICKUP before DELAY. */
 SurfpocketAnswer surfpocket_whole(const uint64_t *list, size_t list_length, uint64_t *card, size_t card_length);
 
-/* The replacement of the row at a place (from 1) by a row of SURFPOCKET_FIELDS numbers that keeps its number and its feeder: gives
-   DONE, puts the row into the list and works out the rows from it to the source on the card, or gives the first refusal and leaves
-   list and card as they were. Card rows off that path are read as they are and never changed. */
+/* The replacement of the row at a place (from 1) by a row of 18 numbers that keeps its number and its feeder: gives DONE, puts the
+   row into the list and works out the rows from it to the source on the card, or gives the first refusal and leaves list and card
+   as they were (it may have written both meanwhile). Card rows off that path are read as they are and stay, and so do the card's
+   numbers past its rows.
+   Order: COUNT, ROOM, EDIT (no row has that place, the new row is not 18 numbers, or its number or feeder is another), then FIELD
+   and TREE over the list as it would be, CARD over all rows ascending (pickup 1 to 100,000,000, delay 0 to 100,000, cutoff 0 to
+   100,000,000), then PICKUP before DELAY row by row along the path. */
 SurfpocketAnswer surfpocket_replace(uint64_t *list, size_t list_length, uint64_t *card, size_t card_length, uint64_t place,
                                     const uint64_t *row, size_t row_length);
 
 /* The currents of a study in whole mA: gives DONE with the greatest rounded up and the least rounded down, or STUDY with both 0.
-   A rated current, in mA, counts per unit only. A unit that is none of the three is STUDY at place 0. */
+   A rated current, in mA, counts per unit only. Order: place 0 for a unit that is none of the three, or a needed rated current
+   outside 1 to 100,000,000; then 1 and 2 for a reading that is not a number, infinite, negative, or not 1 to 100,000,000 mA.
+   A reading that is not a number, quiet or signalling, raises the floating-point flag FE_INVALID; no other flag is raised. A caller
+   that has made that flag a trap screens its readings first. */
 SurfpocketStudy surfpocket_study(uint64_t greatest_unit, float greatest, uint64_t greatest_rated,
                                  uint64_t least_unit, float least, uint64_t least_rated);
 
-/* From the text of a list to its printed card or refusal, written to the front of out: gives DONE and the card's bytes, or the first
-   refusal in the order of the rules and the bytes of its printed lines. What does not fit into out is not written, and bytes is 0: a
-   card is then ROOM, and a refusal is given as it is. SURFPOCKET_CARD_ROOM bytes are always enough. The text, and bytes past what is
-   written, are never changed. */
+/* From the text of a list to its printed card or refusal, at the front of out; bytes past what is written stay.
+   DONE: the card was written, in so many bytes. ROOM (place and field 0): the list has a card, and out is too short for it; nothing
+   was written. Any other number refuses the list: TEXT (place 0 for over 65,536 bytes, tested first, or else the first bad line,
+   the header being 1), then as surfpocket_whole does; the printed refusal was written if it fits into out, or else bytes is 0. */
 SurfpocketPrinted surfpocket_card(const uint8_t *text, size_t text_length, uint8_t *out, size_t out_length);
 
 #ifdef __cplusplus

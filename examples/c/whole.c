@@ -7,22 +7,22 @@
 #define ROWS 2
 
 /* row, feeds_from, kind, volts, work, selfstart, return, far, clear, near, factor, low, high, step, device, floor, ceiling, backed */
-static const uint64_t list[ROWS * SURFPOCKET_FIELDS] = {
+static const uint64_t list[ROWS * SURFPOCKET_SIZE_FIELDS] = {
     1, 2, 1, 35000, 180000, 1500, 935, 900000, 1000000, 1800000, 1300, 50000, 5000000, 1000, 1, 1900, 5000, 1,
     2, 0, 1, 35000, 200000, 1500, 935, 1500000, 3300000, 5200000, 1300, 50000, 10000000, 10000, 1, 0, 3000, 0,
 };
 
 int main(void)
 {
-    uint64_t card[ROWS * SURFPOCKET_CARD_NUMBERS];
-    SurfpocketAnswer answer = surfpocket_whole(list, ROWS * SURFPOCKET_FIELDS, card, ROWS * SURFPOCKET_CARD_NUMBERS);
+    uint64_t card[ROWS * SURFPOCKET_SIZE_COLUMNS];
+    SurfpocketAnswer answer = surfpocket_whole(list, ROWS * SURFPOCKET_SIZE_FIELDS, card, ROWS * SURFPOCKET_SIZE_COLUMNS);
     if (answer.number != SURFPOCKET_DONE) {
         printf("refused: %" PRIu64 ", row %" PRIu64 ", field %" PRIu64 "\n", answer.number, answer.place, answer.field);
         return 1;
     }
     puts("row,pickup,delay,cutoff");
     for (size_t i = 0; i < ROWS; i++) {
-        const uint64_t *set = card + i * SURFPOCKET_CARD_NUMBERS;
+        const uint64_t *set = card + i * SURFPOCKET_SIZE_COLUMNS;
         printf("%zu,%" PRIu64 ",%" PRIu64 ",%" PRIu64 "\n", i + 1, set[0], set[1], set[2]);
     }
     return 0;

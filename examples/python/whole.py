@@ -1,12 +1,5 @@
 """A feeder and its incomer: works out their settings and prints the card."""
-import ctypes
-import pathlib
-import subprocess
-import sys
-import tempfile
-
-ARCHIVE = pathlib.Path(__file__).resolve().parents[2] / "target/staticlib/libsurfpocket.a"
-CARD_NUMBERS = 3
+import surfpocket
 
 # row, feeds_from, kind, volts, work, selfstart, return, far, clear, near, factor, low, high, step, device, floor, ceiling, backed
 ROWS = [
@@ -15,33 +8,14 @@ ROWS = [
 ]
 
 
-class Answer(ctypes.Structure):
-    _fields_ = [("number", ctypes.c_uint64), ("place", ctypes.c_uint64), ("field", ctypes.c_uint64)]
-
-
-def library(folder):
-    """The archive as a shared library, which ctypes can load."""
-    shared = pathlib.Path(folder) / "libsurfpocket.so"
-    words = ["cc", "-shared", "-o", shared, "-Wl,--whole-archive", ARCHIVE, "-Wl,--no-whole-archive"]
-    subprocess.run(words, check=True)
-    loaded = ctypes.CDLL(str(shared))
-    numbers = ctypes.POINTER(ctypes.c_uint64)
-    loaded.surfpocket_whole.argtypes = [numbers, ctypes.c_size_t, numbers, ctypes.c_size_t]
-    loaded.surfpocket_whole.restype = Answer
-    return loaded
-
-
 def main():
-    fields = [field for row in ROWS for field in row]
-    numbers = (ctypes.c_uint64 * len(fields))(*fields)
-    card = (ctypes.c_uint64 * (CARD_NUMBERS * len(ROWS)))()
-    with tempfile.TemporaryDirectory() as folder:
-        answer = library(folder).surfpocket_whole(numbers, len(numbers), card, len(card))
-    if answer.number != 0:
-        sys.exit(f"refused: {answer.number}, row {answer.place}, field {answer.field}")
-    print("row,pickup,delay,cutoff")
-    for i in range(len(ROWS)):
-        print(i + 1, *card[i * CARD_NUMBERS : (i + 1) * CARD_NUMBERS], sep=",")
+    rows = surfpocket.numbers(ROWS)
+    card = surfpocket.empty_card(ROWS)
+    answer = surfpocket.load().surfpocket_whole(rows, len(rows), card, len(card))
+    if answer.number == surfpocket.DONE:
+        surfpocket.print_card(card)
+    else:
+        surfpocket.print_refusal(answer)
 
 
 if __name__ == "__main__":

@@ -1,0 +1,183 @@
+/* Every function of surfpocket.h with every constant: what is done, and what is refused with which number and place. */
+#include <inttypes.h>
+#include <math.h>
+#include <stdio.h>
+#include <stdlib.h>
+#include <string.h>
+
+#include "surfpocket.h"
+
+#define ROWS 2
+#define NUMBERS (ROWS * SURFPOCKET_SIZE_FIELDS)
+#define SETTINGS (ROWS * SURFPOCKET_SIZE_COLUMNS)
+
+/* fields, from 0 as C counts them; surfpocket.h and the README count from 1 */
+enum {
+    ROW, FEEDS_FROM, KIND, VOLTS, WORK, SELFSTART, RETURN, FAR, CLEAR, NEAR, FACTOR, LOW, HIGH, STEP, DEVICE, FLOOR, CEILING, BACKED
+};
+
+/* a feeder, and the incomer that feeds it */
+static const uint64_t plant[NUMBERS] = {
+    1, 2, 1, 35000, 180000, 1500, 935, 900000, 1000000, 1800000, 1300, 50000, 5000000, 1000, 1, 1900, 5000, 1,
+    2, 0, 1, 35000, 200000, 1500, 935, 1500000, 3300000, 5200000, 1300, 50000, 10000000, 10000, 1, 0, 3000, 0,
+};
+
+static const char text[] =
+    "row,name,feeds_from,kind,volts,work,selfstart,return,far,clear,near,factor,low,high,step,device,floor,ceiling,backed\r\n"
+    "1,F1,2,1,35000,180000,1500,935,900000,1000000,1800000,1300,50000,5000000,1000,1,1900,5000,1\r\n"
+    "2,IN,0,1,35000,200000,1500,935,1500000,3300000,5200000,1300,50000,10000000,10000,1,0,3000,0\r\n";
+
+static const char *name_of(uint64_t number)
+{
+    switch (number) {
+    case SURFPOCKET_DONE: return "DONE";
+    case SURFPOCKET_REFUSED_TEXT: return "TEXT";
+    case SURFPOCKET_REFUSED_COUNT: return "COUNT";
+    case SURFPOCKET_REFUSED_ROOM: return "ROOM";
+    case SURFPOCKET_REFUSED_FIELD: return "FIELD";
+    case SURFPOCKET_REFUSED_TREE: return "TREE";
+    case SURFPOCKET_REFUSED_PICKUP: return "PICKUP";
+    case SURFPOCKET_REFUSED_DELAY: return "DELAY";
+    case SURFPOCKET_REFUSED_STUDY: return "STUDY";
+    case SURFPOCKET_REFUSED_CARD: return "CARD";
+    case SURFPOCKET_REFUSED_EDIT: return "EDIT";
+    default: return "a number of a later version";
+    }
+}
+
+static void show(const char *what, SurfpocketAnswer answer)
+{
+    printf("  %-40s %s, place %" PRIu64 ", field %" PRIu64 "\n", what, name_of(answer.number), answer.place, answer.field);
+}
+
+static void show_card(const uint64_t *card)
+{
+    for (size_t i = 0; i < ROWS; i++) {
+        const uint64_t *set = card + i * SURFPOCKET_SIZE_COLUMNS;
+        printf("    row %zu: pickup %" PRIu64 " mA, delay %" PRIu64 " ms, cutoff %" PRIu64 " mA\n", i + 1, set[0], set[1], set[2]);
+    }
+}
+
+/* the whole calculation of the plant with one field changed */
+static void try_whole(const char *what, size_t row, size_t field, uint64_t value)
+{
+    uint64_t list[NUMBERS], card[SETTINGS];
+    memcpy(list, plant, sizeof list);
+    list[row * SURFPOCKET_SIZE_FIELDS + field] = value;
+    show(what, surfpocket_whole(list, NUMBERS, card, SETTINGS));
+}
+
+static void whole(void)
+{
+    static const uint64_t too_many[(SURFPOCKET_SIZE_ROWS + 1) * SURFPOCKET_SIZE_FIELDS];
+    uint64_t card[SETTINGS];
+    puts("the whole calculation");
+    show("the plant", surfpocket_whole(plant, NUMBERS, card, SETTINGS));
+    show_card(card);
+    show("no row", surfpocket_whole(NULL, 0, card, SETTINGS));
+    show("a partial row", surfpocket_whole(plant, NUMBERS - 1, card, SETTINGS));
+    show("257 rows", surfpocket_whole(too_many, sizeof too_many / sizeof *too_many, card, SETTINGS));
+    show("a card of 5 numbers", surfpocket_whole(plant, NUMBERS, card, SETTINGS - 1));
+    try_whole("row 1: volts 99", 0, VOLTS, 99);
+    try_whole("row 1: low above high", 0, LOW, 5000001);
+    try_whole("row 1: fed by itself", 0, FEEDS_FROM, 1);
+    try_whole("row 2: far 539,999 mA", 1, FAR, 539999);
+    try_whole("row 2: ceiling 2,199 ms", 1, CEILING, 2199);
+}
+
+/* the replacement of row 1 of the plant, one field changed, on the list and card lent */
+static SurfpocketAnswer put_row_1(uint64_t *list, uint64_t *card, size_t field, uint64_t value)
+{
+    /* a copy: a row that points into the list would overlap it */
+    uint64_t row[SURFPOCKET_SIZE_FIELDS];
+    memcpy(row, list, sizeof row);
+    row[field] = value;
+    return surfpocket_replace(list, NUMBERS, card, SETTINGS, 1, row, SURFPOCKET_SIZE_FIELDS);
+}
+
+static void replace(void)
+{
+    uint64_t list[NUMBERS], card[SETTINGS], old_list[NUMBERS], old_card[SETTINGS];
+    memcpy(list, plant, sizeof list);
+    surfpocket_whole(list, NUMBERS, card, SETTINGS);
+    puts("the replacement of row 1");
+    show("work 190,000 mA", put_row_1(list, card, WORK, 190000));
+    show_card(card);
+    memcpy(old_list, list, sizeof list);
+    memcpy(old_card, card, sizeof card);
+    show("far 431,000 mA", put_row_1(list, card, FAR, 431000));
+    show("floor 2,701 ms", put_row_1(list, card, FLOOR, 2701));
+    show("volts 99", put_row_1(list, card, VOLTS, 99));
+    show("another feeder", put_row_1(list, card, FEEDS_FROM, 0));
+    show("another number", put_row_1(list, card, ROW, 2));
+    show("a place that no row has", surfpocket_replace(list, NUMBERS, card, SETTINGS, 3, plant, SURFPOCKET_SIZE_FIELDS));
+    show("a new row of 17 numbers", surfpocket_replace(list, NUMBERS, card, SETTINGS, 1, plant, SURFPOCKET_SIZE_FIELDS - 1));
+    show("a list with a partial row", surfpocket_replace(list, NUMBERS - 1, card, SETTINGS, 1, plant, SURFPOCKET_SIZE_FIELDS));
+    show("no card", surfpocket_replace(list, NUMBERS, NULL, 0, 1, plant, SURFPOCKET_SIZE_FIELDS));
+    printf("    list and card stand as they stood: %s\n",
+           memcmp(list, old_list, sizeof list) == 0 && memcmp(card, old_card, sizeof card) == 0 ? "yes" : "no");
+    card[SURFPOCKET_SIZE_COLUMNS] = 0;
+    show("a card with pickup 0 in row 2", put_row_1(list, card, WORK, 190000));
+    list[SURFPOCKET_SIZE_FIELDS + KIND] = 3;
+    show("a list whose row 2 is a motor", put_row_1(list, card, WORK, 190000));
+}
+
+static void show_study(const char *what, SurfpocketStudy study)
+{
+    printf("  %-40s %s, place %" PRIu64 ", greatest %" PRIu64 " mA, least %" PRIu64 " mA\n", what, name_of(study.number),
+           study.place, study.greatest, study.least);
+}
+
+static void study(void)
+{
+    puts("a study's currents");
+    show_study("0.5 A and 0.5 A", surfpocket_study(SURFPOCKET_UNIT_AMPERES, 0.5f, 0, SURFPOCKET_UNIT_AMPERES, 0.5f, 0));
+    show_study("0.1 kA and 0.1 kA",
+               surfpocket_study(SURFPOCKET_UNIT_KILOAMPERES, 0.1f, 0, SURFPOCKET_UNIT_KILOAMPERES, 0.1f, 0));
+    show_study("4.5 per unit of 630 A, and 1.2 kA",
+               surfpocket_study(SURFPOCKET_UNIT_PER_UNIT, 4.5f, 630000, SURFPOCKET_UNIT_KILOAMPERES, 1.2f, 0));
+    show_study("per unit of 0 mA", surfpocket_study(SURFPOCKET_UNIT_PER_UNIT, 4.5f, 0, SURFPOCKET_UNIT_AMPERES, 0.5f, 0));
+    show_study("a unit that is none of the three", surfpocket_study(4, 0.5f, 0, SURFPOCKET_UNIT_AMPERES, 0.5f, 0));
+    show_study("not a number", surfpocket_study(SURFPOCKET_UNIT_AMPERES, NAN, 0, SURFPOCKET_UNIT_AMPERES, 0.5f, 0));
+    show_study("a negative least current", surfpocket_study(SURFPOCKET_UNIT_AMPERES, 0.5f, 0, SURFPOCKET_UNIT_AMPERES, -0.5f, 0));
+}
+
+/* the printed card or refusal of a text, without the CRs of its line ends */
+static void print(const char *what, const void *bytes, size_t length, size_t room)
+{
+    static uint8_t out[SURFPOCKET_SIZE_PRINTED];
+    SurfpocketPrinted printed = surfpocket_card(bytes, length, out, room);
+    printf("  %-40s %s, place %" PRIu64 ", field %" PRIu64 ", %" PRIu64 " bytes\n", what, name_of(printed.number), printed.place,
+           printed.field, printed.bytes);
+    for (size_t i = 0; i < printed.bytes; i++) {
+        if (out[i] != '\r') {
+            printf("%s%c", i == 0 || out[i - 1] == '\n' ? "    " : "", out[i]);
+        }
+    }
+}
+
+static void card(void)
+{
+    static const uint8_t too_long[SURFPOCKET_SIZE_TEXT + 1];
+    size_t length = sizeof text - 1;
+    puts("from text to card");
+    print("the plant", text, length, SURFPOCKET_SIZE_PRINTED);
+    print("a buffer of 60 bytes", text, length, 60);
+    print("the last number cut off", text, length - 3, SURFPOCKET_SIZE_PRINTED);
+    print("the same, a buffer of 20 bytes", text, length - 3, 20);
+    print("65,537 bytes", too_long, sizeof too_long, SURFPOCKET_SIZE_PRINTED);
+    print("no byte, no buffer", NULL, 0, 0);
+}
+
+int main(void)
+{
+    if (surfpocket_version() != SURFPOCKET_VERSION) {
+        fputs("the library is of another version than the header\n", stderr);
+        return EXIT_FAILURE;
+    }
+    whole();
+    replace();
+    study();
+    card();
+    return EXIT_SUCCESS;
+}

@@ -1,0 +1,59 @@
+"""include/surfpocket.h for Python, through ctypes."""
+import ctypes
+import pathlib
+import re
+import subprocess
+import tempfile
+
+HOME = pathlib.Path(__file__).resolve().parents[3]
+HEADER = HOME / "include/surfpocket.h"
+ARCHIVE = HOME / "target/staticlib/libsurfpocket.a"
+
+# the header's constants by their names without SURFPOCKET_, as SIZE_FIELDS
+CONSTANT = {name: int(value) for name, value in re.findall(r"#define SURFPOCKET_(\w+) (\d+)", HEADER.read_text())}
+FIELDS = CONSTANT["SIZE_FIELDS"]
+COLUMNS = CONSTANT["SIZE_COLUMNS"]
+DONE = CONSTANT["DONE"]
+
+
+class Answer(ctypes.Structure):
+    _fields_ = [("number", ctypes.c_uint64), ("place", ctypes.c_uint64), ("field", ctypes.c_uint64)]
+
+
+def load():
+    """The library, loaded from a shared object that is made of the archive."""
+    with tempfile.TemporaryDirectory() as folder:
+        shared = pathlib.Path(folder) / "libsurfpocket.so"
+        words = ["cc", "-shared", "-o", shared, "-Wl,--whole-archive", ARCHIVE, "-Wl,--no-whole-archive"]
+        subprocess.run(words, check=True)
+        library = ctypes.CDLL(str(shared))
+    pointer, size, number = ctypes.POINTER(ctypes.c_uint64), ctypes.c_size_t, ctypes.c_uint64
+    library.surfpocket_version.restype = number
+    library.surfpocket_whole.argtypes = [pointer, size, pointer, size]
+    library.surfpocket_whole.restype = Answer
+    library.surfpocket_replace.argtypes = [pointer, size, pointer, size, number, pointer, size]
+    library.surfpocket_replace.restype = Answer
+    if library.surfpocket_version() != CONSTANT["VERSION"]:
+        raise RuntimeError("the library is of another version than the header")
+    return library
+
+
+def numbers(rows):
+    """Rows as the numbers that the library is lent."""
+    flat = [field for row in rows for field in row]
+    return (ctypes.c_uint64 * len(flat))(*flat)
+
+
+def empty_card(rows):
+    return numbers([[0] * COLUMNS for _ in rows])
+
+
+def print_card(card):
+    print("row,pickup,delay,cutoff")
+    for start in range(0, len(card), COLUMNS):
+        print(start // COLUMNS + 1, *card[start : start + COLUMNS], sep=",")
+
+
+def print_refusal(answer):
+    name = next(name for name, value in CONSTANT.items() if name.startswith("REFUSED_") and value == answer.number)
+    print(f"{name}, place {answer.place}, field {answer.field}")
