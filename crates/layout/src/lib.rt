@@ -4,9 +4,9 @@ use copy::put;
 ghost use mathlib.Core.Path.{_≡_};
 ghost use Prim.Native.Nat.{_+_, _*_, _<_, _≤_};
 ghost use lib.ListN.{length};
-ghost use Rattle.layout.specs.Card.{column, cardRowAt, putCardRow};
+ghost use Rattle.layout.specs.Card.{column, cardRowAt, columnBounds, putCardRow};
 ghost use Rattle.layout.specs.Counts.{fieldCount, columnCount};
-ghost use Rattle.layout.specs.Fields.{inBounds};
+ghost use Rattle.layout.specs.Fields.{bounds, inBounds};
 ghost use Rattle.layout.specs.List.{field, rowAt};
 
 // A row of a list has so many fields, a row of a card so many columns, and a list so many rows at most.
@@ -31,14 +31,26 @@ pub const AT_LOW: usize = 11;
 pub const AT_HIGH: usize = 12;
 
 // The least and the greatest number allowed, field by field [01 §2].
-pub const BOUNDS: [u64; 2 * FIELDS] = [
+const BOUNDS: [u64; 2 * FIELDS] = [
     1, 256, 0, 256, 1, 3, 100, 500000, 1, 100000000, 1000, 10000, 800, 1000,
     1, 100000000, 1, 100000000, 1, 100000000, 1000, 2000,
     1, 100000000, 1, 100000000, 1, 100000000, 1, 3, 0, 100000, 0, 100000, 0, 1,
 ];
 
 // The same of a lent card, column by column [01 §4, 9 CARD].
-pub const COLUMN_BOUNDS: [u64; 2 * COLUMNS] = [1, 100000000, 0, 100000, 0, 100000000];
+const COLUMN_BOUNDS: [u64; 2 * COLUMNS] = [1, 100000000, 0, 100000, 0, 100000000];
+
+pub fn field_bounds() -> [u64; 2 * FIELDS]
+    ensures { λ r. ⌜ r ≡ bounds ⌝ }
+{
+    BOUNDS
+}
+
+pub fn column_bounds() -> [u64; 2 * COLUMNS]
+    ensures { λ r. ⌜ r ≡ columnBounds ⌝ }
+{
+    COLUMN_BOUNDS
+}
 
 // A number against entry k of such a table.
 pub fn in_bounds(table: &[u64], k: usize, x: u64) -> bool

@@ -4,10 +4,10 @@ use answers::Tested;
 use grid::Found;
 use layout::AT_FEEDER;
 use layout::COLUMNS;
-use layout::COLUMN_BOUNDS;
 use layout::FIELDS;
 use layout::card_row_at;
 use layout::column_at;
+use layout::column_bounds;
 use layout::field_at;
 use layout::in_bounds;
 use layout::put_card_row;
@@ -50,7 +50,7 @@ fn first_card_wrong(card: &[u64], n: usize) -> Found
     requires { ⌜ n * columnCount ≤ length (now card) ⌝ }
     ensures { λ r. ⌜ r ≡ first (λ j. not (cardRight (now (card .entry)) j)) 0 n ⌝ }
 {
-    let table = COLUMN_BOUNDS;
+    let table = column_bounds();
     let mut j = 0;
     while j < n {
         if !card_right(card, &table, j) {

@@ -7,11 +7,11 @@ use layout::AT_FEEDER;
 use layout::AT_HIGH;
 use layout::AT_KIND;
 use layout::AT_LOW;
-use layout::BOUNDS;
 use layout::COLUMNS;
 use layout::FIELDS;
 use layout::LIST;
 use layout::field_at;
+use layout::field_bounds;
 use layout::in_bounds;
 ghost use mathlib.Core.Path.{_≡_};
 ghost use Prim.Native.Nat.{_+_, _*_, _<_, _≤_};
@@ -59,7 +59,7 @@ fn test_fields(list: &[u64]) -> Tested
     ensures { λ r. ⌜ r ≡ fieldsTest (now (list .entry)) ⌝ }
 {
     let n = list.len() / FIELDS;
-    let table = BOUNDS;
+    let table = field_bounds();
     let mut i = 0;
     while i < n {
         let fault = row_fault(list, &table, i);

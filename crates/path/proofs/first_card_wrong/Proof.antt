@@ -1,6 +1,6 @@
 -- `first_card_wrong` finds the first card row out of range: the rows that the loop has passed are in range.
 use borrow.Author.Needs.{needs}
-use mathlib.Core.Path.{refl, ap, sym, _∙_}
+use mathlib.Core.Path.{ap, sym, _∙_}
 use mathlib.Core.Bool.{not}
 use Prim.Native.Nat.{_-_}
 use native.Mathlib.Omega.{arith}
@@ -15,6 +15,9 @@ Inv-loop card n table j₀ j = Passed (λ j. not (cardRight card j)) n j
 abbrev μ-loop : tie.MeasureT-loop
 μ-loop card n table j₀ j = n - j
 
+column-bounds-requires : tie.Need-column-bounds-requires Inv-loop μ-loop
+column-bounds-requires c κs = search needs
+
 loop-holds : tie.Need-loop-holds Inv-loop μ-loop
 loop-holds c = passed-none _ _
 
@@ -22,7 +25,7 @@ slice-aggregate-card-right : tie.Need-slice-aggregate-card-right Inv-loop μ-loo
 slice-aggregate-card-right c = search needs
 
 card-right-requires : tie.Need-card-right-requires Inv-loop μ-loop
-card-right-requires c κs = (omega arith, refl)
+card-right-requires c κs = (omega arith, c .before .before .before .column-bounds .ensures)
 
 returns : tie.Need-returns Inv-loop μ-loop
 returns c = sym (passed-found _ (c .before .before .before .before .loop .inv) (c .before .before .before .loop-test .taken) (sym (ap not (c .before .card-right .ensures)) ∙ c .if1 .taken))
@@ -45,6 +48,7 @@ first-card-wrong-spec =
     (tie.spec
     Inv-loop
     μ-loop
+    column-bounds-requires
     loop-holds
     slice-aggregate-card-right
     card-right-requires

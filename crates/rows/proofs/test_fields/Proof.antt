@@ -1,7 +1,6 @@
 -- `rows::test_fields` meets its contract: the loop has passed rows without fault, so the first at fault is the first of all.
 use native.Mathlib.Omega.{arith}
 use borrow.Author.Needs.{needs}
-use mathlib.Core.Path.{refl}
 use Prim.Native.Nat.{_-_}
 use Rattle.grid.proofs.FirstLaws.{Passed, passed-none, passed-more, passed-found, passed-all}
 use Rattle.rows.specs.Tests.{rowAtFault}
@@ -15,6 +14,9 @@ Inv-loop list n table i₀ i = Passed (rowAtFault list) n i
 abbrev μ-loop : tie.MeasureT-loop
 μ-loop list n table i₀ i = n - i
 
+field-bounds-requires : tie.Need-field-bounds-requires Inv-loop μ-loop
+field-bounds-requires c κs = search needs
+
 loop-holds : tie.Need-loop-holds Inv-loop μ-loop
 loop-holds c = passed-none _ _
 
@@ -22,7 +24,7 @@ slice-aggregate-row-fault : tie.Need-slice-aggregate-row-fault Inv-loop μ-loop
 slice-aggregate-row-fault c = search needs
 
 row-fault-requires : tie.Need-row-fault-requires Inv-loop μ-loop
-row-fault-requires c κs = (omega arith, refl)
+row-fault-requires c κs = (omega arith, c .before .before .before .field-bounds .ensures)
 
 add-t12 : tie.Need-add-t12 Inv-loop μ-loop
 add-t12 c = omega arith
@@ -51,6 +53,7 @@ test-fields-spec =
     (tie.spec
     Inv-loop
     μ-loop
+    field-bounds-requires
     loop-holds
     slice-aggregate-row-fault
     row-fault-requires
