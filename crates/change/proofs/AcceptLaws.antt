@@ -60,7 +60,9 @@ pub accepts : (l c₀ c : List ℕ) → whole l c₀ ≡ record { answer = Done;
 unfolding whole after ending
 accepts l c₀ c e = by-size (sizeTest (length l) (length c₀)) refl
   where
-    by-work : (w : Worked) → sizeTest (length l) (length c₀) ≡ Passed → onPassed (rowsTest l) (calculation l c₀) ≡ w → ending c₀ w ≡ record { answer = Done; card = c } → Accepts l c₀ c
+    by-work :
+        (w : Worked) → sizeTest (length l) (length c₀) ≡ Passed → onPassed (rowsTest l) (calculation l c₀) ≡ w →
+        ending c₀ w ≡ record { answer = Done; card = c } → Accepts l c₀ c
     by-work (finished d) s q g =
         let p = passed-finished (rowsTest l) (calculation l c₀) d q in
         record { size = s; tested = p .0; calculated = p .1 ∙ ap (λ (r : Result). finished (r .card)) g }

@@ -12,9 +12,8 @@ use mathlib.Core.Bool.{true, false}
 use mathlib.Core.Logic.{_↔_, _⊎_, ⊎-elim}
 use mathlib.Core.List.{List, [], _∷_}
 use Prim.Native.Nat.{ℕ, _+_, _-_, _*_, _≤_, _<_}
-use native.Mathlib.Omega.{arith}
 use lib.ListN.{length, getD, drop}
-use Rattle.grid.proofs.BoolLaws.{fails}
+use Rattle.grid.proofs.BoolLaws.{fails, zero-not-one}
 use Rattle.answers.specs.declared.Answer.{Answer}
 use Rattle.answers.specs.declared.Answer.the-variants.{Done, Edit}
 use Rattle.answers.specs.declared.Tested.the-variants.{Passed}
@@ -37,7 +36,7 @@ use Rattle.change.proofs.SeriesLaws.{one-agrees, replaced-edit, replace
 use Rattle.edit.proofs.TestLaws.{edit-fits}
 
 done-not-edit : Done ≡ Edit → ⊥
-done-not-edit e = let z : _≡_ {A = ℕ} 0 1 = cc in omega arith
+done-not-edit e = zero-not-one cc
 
 -- what holds after a series, the card being c₀ at the start and c after the whole calculation of l
 pub record AfterSeries (l c₀ c : List ℕ) (series : List Request) : Type 0 where
@@ -78,18 +77,22 @@ pub record AsWhole (l c₀ c : List ℕ) (place : ℕ) (row : List ℕ) : Type 0
   pub card-when-done : replaced l c place row .answer ≡ Done → replaced l c place row .card ≡ whole (putList l (place - 1) row) c₀ .card
 
 pub replaced-as-whole :
-    (l c₀ c : List ℕ) → whole l c₀ ≡ record { answer = Done; card = c } → (place : ℕ) (row : List ℕ) → editRight l place row ≡ true → AsWhole l c₀ c place row
+    (l c₀ c : List ℕ) → whole l c₀ ≡ record { answer = Done; card = c } → (place : ℕ) (row : List ℕ) → editRight l place row ≡
+    true → AsWhole l c₀ c place row
 unfolding outcome ending
 replaced-as-whole l c₀ c g place row e =
     let x = accepts l c₀ c g in
     let f = edit-fits l place row e in
-    by-cases (made l c₀ c x place row f) (replaced-made l c₀ c x place row f) (whole-made l c₀ c x place row f) (made-answer l c₀ c x place row f) (made-refuses l c₀ c x place row f)
+    by-cases (made l c₀ c x place row f) (replaced-made l c₀ c x place row f) (whole-made l c₀ c x place row f) (made-answer l c₀ c x place row f)
+    (made-refuses l c₀ c x place row f)
   where
     by-cases :
         (w : Worked) → replaced l c place row ≡ outcome l c (putList l (place - 1) row) w → whole (putList l (place - 1) row) c₀ ≡ ending c₀ w →
-        whole (putList l (place - 1) row) c₀ .answer ≡ whole (putList l (place - 1) row) c .answer → ((a : Answer) → w ≡ refused a → Refuses a) → AsWhole l c₀ c place row
+        whole (putList l (place - 1) row) c₀ .answer ≡ whole (putList l (place - 1) row) c .answer → ((a : Answer) → w ≡ refused a → Refuses a) →
+        AsWhole l c₀ c place row
     by-cases (finished d) r w s n =
-        let answer : replaced l c place row .answer ≡ whole (putList l (place - 1) row) c₀ .answer = ap (λ (r : Replaced). r .answer) r ∙ sym (ap (λ (r : Result). r .answer) w) in
+        let answer : replaced l c place row .answer ≡ whole (putList l (place - 1) row) c₀ .answer = ap (λ (r : Replaced). r .answer) r ∙ sym
+        (ap (λ (r : Result). r .answer) w) in
         record {
           answer = answer;
           answer-on-card = answer ∙ s;
@@ -97,7 +100,8 @@ replaced-as-whole l c₀ c g place row e =
           card-when-done = λ _. ap (λ (r : Replaced). r .card) r ∙ sym (ap (λ (r : Result). r .card) w);
         }
     by-cases (refused a) r w s n =
-        let answer : replaced l c place row .answer ≡ whole (putList l (place - 1) row) c₀ .answer = ap (λ (r : Replaced). r .answer) r ∙ sym (ap (λ (r : Result). r .answer) w) in
+        let answer : replaced l c place row .answer ≡ whole (putList l (place - 1) row) c₀ .answer = ap (λ (r : Replaced). r .answer) r ∙ sym
+        (ap (λ (r : Result). r .answer) w) in
         let never : replaced l c place row .answer ≡ Done → ⊥ = λ e. refuses-done (n a refl) (sym (ap (λ (r : Replaced). r .answer) r) ∙ e) in
         record {
           answer = answer;
@@ -107,10 +111,12 @@ replaced-as-whole l c₀ c g place row e =
         }
 
 pub edit-exactly :
-    (l c : List ℕ) (place : ℕ) (row : List ℕ) → sizeTest (length l) (length c) ≡ Passed → (replaced l c place row .answer ≡ Edit) ↔ (editRight l place row ≡ false)
+    (l c : List ℕ) (place : ℕ) (row : List ℕ) → sizeTest (length l) (length c) ≡ Passed → (replaced l c place row .answer ≡ Edit) ↔
+    (editRight l place row ≡ false)
 unfolding outcome
 edit-exactly l c place row s = (
-  λ e. fails (editRight l place row) (λ t. by-cases (reworked (putList l (place - 1) row) (place - 1) c) refl (sym (ap (λ (r : Replaced). r .answer) (replaced-edited l c place row s (edit-fits l place row t))) ∙ e)),
+  λ e. fails (editRight l place row) (λ t. by-cases (reworked (putList l (place - 1) row) (place - 1) c) refl
+      (sym (ap (λ (r : Replaced). r .answer) (replaced-edited l c place row s (edit-fits l place row t))) ∙ e)),
   λ e. ap (λ (r : Replaced). r .answer) (replaced-edit l c place row s e),
 )
   where

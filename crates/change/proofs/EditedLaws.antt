@@ -21,7 +21,8 @@ use Rattle.edit.proofs.PutLaws.{putList-length, putList-before, putList-within,
 use Rattle.edit.proofs.TestLaws.{EditFits}
 
 -- two lists with the same feeding rows have the same paths
-paths-same : (l l′ : List ℕ) → rows l ≡ rows l′ → ((j : ℕ) → field l j atFeeder ≡ field l′ j atFeeder) → (i : ℕ) → pathOf l i ≡ pathOf l′ i
+paths-same :
+    (l l′ : List ℕ) → rows l ≡ rows l′ → ((j : ℕ) → field l j atFeeder ≡ field l′ j atFeeder) → (i : ℕ) → pathOf l i ≡ pathOf l′ i
 unfolding pathOf pathFrom
 paths-same l l′ n f i = from (rows l) i ∙ ap (λ (n : ℕ). pathFrom l′ n i) n
   where

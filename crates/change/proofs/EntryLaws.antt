@@ -45,14 +45,16 @@ module _ (l : List ℕ) (i : ℕ) (c : List ℕ) where
     rework-path f′ x c′ z = rw (sym e ∙ f, sym e′ ∙ f′) z
 
 -- the new row is put in
-module _ (l c : List ℕ) (i : ℕ) (row l′ : List ℕ) (el : l′ ≡ putList l i row) (t : Tested) (c′ : List ℕ) (z : Reworked (reworked l′ i c) c t c′) where
+module _ (l c : List ℕ) (i : ℕ) (row l′ : List ℕ) (el : l′ ≡ putList l i row) (t : Tested) (c′ : List ℕ)
+    (z : Reworked (reworked l′ i c) c t c′) where
   worked : reworked (putList l i row) i c ≡ reworked l′ i c
   worked = ap (λ (l : List ℕ). reworked l i c) (sym el)
 
   pub exchange-done : t ≡ Passed → Exchanged (exchanged l c i row) Done l′ c′
   unfolding outcome testedOf cardOf
   exchange-done e =
-      subst (λ (w : Worked). Exchanged (outcome l c (putList l i row) w) Done l′ c′) (sym worked) (by-cases (reworked l′ i c) (sym e ∙ z .answer) (z .card))
+      subst (λ (w : Worked). Exchanged (outcome l c (putList l i row) w) Done l′ c′) (sym worked)
+      (by-cases (reworked l′ i c) (sym e ∙ z .answer) (z .card))
     where
       by-cases : (w : Worked) → Passed ≡ testedOf w → c′ ≡ cardOf c w → Exchanged (outcome l c (putList l i row) w) Done l′ c′
       by-cases (finished d) q k = record { answer = refl; list = el; card = k }
@@ -61,7 +63,8 @@ module _ (l c : List ℕ) (i : ℕ) (row l′ : List ℕ) (el : l′ ≡ putList
   -- refused: the old row, which was kept aside in 18 numbers, goes back
   pub exchange-refused :
       (a : Answer) (y old l″ : List ℕ) → t ≡ Refused a → PutReady l i row → length y ≡ fieldCount →
-      old ≡ putList y 0 (take (i * fieldCount + fieldCount - i * fieldCount) (drop (i * fieldCount) l)) → l″ ≡ putList l′ i old → Exchanged (exchanged l c i row) a l″ c′
+      old ≡ putList y 0 (take (i * fieldCount + fieldCount - i * fieldCount) (drop (i * fieldCount) l)) → l″ ≡ putList l′ i old → Exchanged
+      (exchanged l c i row) a l″ c′
   unfolding outcome putList
   exchange-refused a y old l″ e h ky eo e″ =
       let b = reworked-refused (reworked l′ i c) c c t c′ z a e in
@@ -73,7 +76,9 @@ module _ (l c : List ℕ) (i : ℕ) (row l′ : List ℕ) (el : l′ ≡ putList
       })
     where
       -- 18 numbers written over 18
-      kept : (y : List ℕ) → length y ≡ fieldCount → putList y 0 (take (i * fieldCount + fieldCount - i * fieldCount) (drop (i * fieldCount) l)) ≡ take fieldCount (drop (i * fieldCount) l)
+      kept :
+          (y : List ℕ) → length y ≡ fieldCount →
+          putList y 0 (take (i * fieldCount + fieldCount - i * fieldCount) (drop (i * fieldCount) l)) ≡ take fieldCount (drop (i * fieldCount) l)
       kept y k =
           let n : i * fieldCount + fieldCount - i * fieldCount ≡ fieldCount = omega arith in
           let d : drop fieldCount y ≡ [] = drop-of-length-le y {i = fieldCount} (omega arith) in

@@ -108,7 +108,8 @@ module _ (l c : List ℕ) (place : ℕ) (row : List ℕ) where
     where
       by-cases :
           (w : Worked) → tried ≡ w →
-          outcome l c (putList l (place - 1) row) w .list ≡ cond (eqb (numberOf (outcome l c (putList l (place - 1) row) w .answer)) 0) (putList l (place - 1) row) l
+          outcome l c (putList l (place - 1) row) w .list ≡ cond (eqb (numberOf (outcome l c (putList l (place - 1) row) w .answer)) 0)
+          (putList l (place - 1) row) l
       by-cases (finished d) q = refl
       by-cases (refused a) q = rw (tried-refuses a q .not-done)
 
@@ -133,5 +134,6 @@ module _ (l c : List ℕ) (place : ℕ) (row : List ℕ) where
     unfolding onPath
     path-within i on =
         let n = edited-rows l place row f in
-        let k = on-within (putList l (place - 1) row) (passed-feeds (putList l (place - 1) row) t) (place - 1) i (rw (← n) (edited-is-row l place row f)) on in
+        let k = on-within (putList l (place - 1) row) (passed-feeds (putList l (place - 1) row) t) (place - 1) i
+        (rw (← n) (edited-is-row l place row f)) on in
         omega arith

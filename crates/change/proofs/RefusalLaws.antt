@@ -86,14 +86,19 @@ unfolding workOut onSettled
 work-later l [] c a e = absurd (never-finished (sym e))
 work-later l (i ∷ is) c a e = by-cases (settled (viewOf l) (cardRowAt c) i) e (λ k. work-later l is (putCardRow c i k) a)
   where
-    by-cases : (s : Settled) → onSettled i s (λ k. workOut l is (putCardRow c i k)) ≡ refused a → ((k : CardRow) → workOut l is (putCardRow c i k) ≡ refused a → Later a) → Later a
+    by-cases :
+        (s : Settled) → onSettled i s (λ k. workOut l is (putCardRow c i k)) ≡ refused a →
+        ((k : CardRow) → workOut l is (putCardRow c i k) ≡ refused a → Later a) → Later a
     by-cases (Set o) e ih = ih (shown o) e
     by-cases (Unset why) e ih =
         subst Later (same-refusal e) (record { refuses = record { not-done = reason-not-done why }; not-edit = reason-not-edit why })
 
 -- a refusal after a test is the test's or what comes next's
 module _ (t : Tested) (w : Worked) where
-  pub passed-refused : (P : Answer → Type 0) → ((a : Answer) → t ≡ Refused a → P a) → ((a : Answer) → w ≡ refused a → P a) → (a : Answer) → onPassed t w ≡ refused a → P a
+  pub passed-refused :
+      (P : Answer → Type 0) → ((a : Answer) → t ≡ Refused a → P a) → ((a : Answer) → w ≡ refused a → P a) → (a : Answer) →
+      onPassed t w ≡ refused a →
+      P a
   unfolding onPassed
   passed-refused P f g a = by-cases t refl
     where

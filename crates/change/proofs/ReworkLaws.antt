@@ -62,7 +62,8 @@ module _ (l c₀ c : List ℕ) (x : Accepts l c₀ c) (place : ℕ) (row : List 
         record {
           outcome = s .outcome;
           settles =
-              settled-same (viewOf l′) (viewOf l) (cardRowAt c) (cardRowAt c) j (sym (edited-rows l place row f)) (sym (edited-row l place row f j (not-new j off)))
+              settled-same (viewOf l′) (viewOf l) (cardRowAt c) (cardRowAt c) j (sym (edited-rows l place row f))
+              (sym (edited-row l place row f j (not-new j off)))
               (λ k _. ap (λ (f : ℕ). eqb f (j + 1)) (sym (edited-feeder l place row f k)))
               (λ k _ g. sym (edited-row l place row f k (not-new k (fed-off l′ feeds (place - 1) is-row j k off g))))
               (λ k _ _. refl) ∙
@@ -76,7 +77,9 @@ module _ (l c₀ c : List ℕ) (x : Accepts l c₀ c) (place : ℕ) (row : List 
         calculation-same l′ feeds c c₀ (rw (accepted-length l c₀ c x) room) room
         (same-rows (λ n. drop (n * columnCount) c ≡ drop (n * columnCount) c₀) (calculation-keeps l c₀ c (x .calculated) .past-rows))
 
-  pub reworked-whole : reworked (putList l (place - 1) row) (place - 1) c ≡ onPassed (rowsTest (putList l (place - 1) row)) (calculation (putList l (place - 1) row) c₀)
+  pub reworked-whole :
+      reworked (putList l (place - 1) row) (place - 1) c ≡ onPassed (rowsTest (putList l (place - 1) row))
+      (calculation (putList l (place - 1) row) c₀)
   unfolding reworked onPassed
   reworked-whole = by-cases (rowsTest l′) refl
     where

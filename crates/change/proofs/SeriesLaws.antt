@@ -30,31 +30,43 @@ use Rattle.change.proofs.ReworkLaws.{reworked-whole}
 use Rattle.edit.proofs.TestLaws.{EditFits, edit-fits, fits-edit, edit-passes, edit-refuses}
 
 -- the answer of the whole calculation does not depend on the card, where it has room
-answer-same : (l c c′ : List ℕ) → sizeTest (length l) (length c) ≡ Passed → sizeTest (length l) (length c′) ≡ Passed → whole l c .answer ≡ whole l c′ .answer
+answer-same :
+    (l c c′ : List ℕ) → sizeTest (length l) (length c) ≡ Passed → sizeTest (length l) (length c′) ≡ Passed → whole l c .answer ≡
+    whole l c′ .answer
 unfolding ending onPassed framed
-answer-same l c c′ s s′ = ap (λ (r : Result). r .answer) (whole-as l c s) ∙ by-cases (rowsTest l) refl ∙ sym (ap (λ (r : Result). r .answer) (whole-as l c′ s′))
+answer-same l c c′ s s′ =
+    ap (λ (r : Result). r .answer) (whole-as l c s) ∙ by-cases (rowsTest l) refl ∙
+    sym (ap (λ (r : Result). r .answer) (whole-as l c′ s′))
   where
     by-work : (w : Worked) → ending c w .answer ≡ ending c′ (framed (rows l * columnCount) c′ w) .answer
     by-work (finished d) = refl
     by-work (refused a) = refl
 
-    by-cases : (t : Tested) → rowsTest l ≡ t → ending c (onPassed (rowsTest l) (calculation l c)) .answer ≡ ending c′ (onPassed (rowsTest l) (calculation l c′)) .answer
+    by-cases :
+        (t : Tested) → rowsTest l ≡ t →
+        ending c (onPassed (rowsTest l) (calculation l c)) .answer ≡ ending c′ (onPassed (rowsTest l) (calculation l c′)) .answer
     by-cases Passed e =
         let k = size-passed (length l) (length c) s in
         let k′ = size-passed (length l) (length c′) s′ in
         rw (e, calculation-frame l (passed-feeds l e) c c′ (omega (arith, k .card-room)) (omega (arith, k′ .card-room))) (by-work (calculation l c))
     by-cases (Refused a) e = rw e
 
-pub edit-cases : {P : Type 0} (l : List ℕ) (place : ℕ) (row : List ℕ) → (EditFits l place row → editRight l place row ≡ true → P) → (editRight l place row ≡ false → P) → P
+pub edit-cases :
+    {P : Type 0} (l : List ℕ) (place : ℕ) (row : List ℕ) → (EditFits l place row → editRight l place row ≡ true → P) →
+    (editRight l place row ≡ false → P) → P
 edit-cases l place row f g = ⊎-elim (λ e. f (edit-fits l place row e) e) g (passes-or-fails (editRight l place row))
 
 -- EDIT applies
-pub replaced-edit : (l c : List ℕ) (place : ℕ) (row : List ℕ) → sizeTest (length l) (length c) ≡ Passed → editRight l place row ≡ false → replaced l c place row ≡ record { answer = Edit; list = l; card = c }
+pub replaced-edit :
+    (l c : List ℕ) (place : ℕ) (row : List ℕ) → sizeTest (length l) (length c) ≡ Passed → editRight l place row ≡ false →
+    replaced l c place row ≡ record { answer = Edit; list = l; card = c }
 unfolding replaced onPassed outcome
 replaced-edit l c place row s e = rw (s, sym (edit-refuses l place row (λ f. not-both (fits-edit l place row f) e)))
 
 -- EDIT does not apply
-pub replaced-edited : (l c : List ℕ) (place : ℕ) (row : List ℕ) → sizeTest (length l) (length c) ≡ Passed → EditFits l place row → replaced l c place row ≡ outcome l c (putList l (place - 1) row) (reworked (putList l (place - 1) row) (place - 1) c)
+pub replaced-edited :
+    (l c : List ℕ) (place : ℕ) (row : List ℕ) → sizeTest (length l) (length c) ≡ Passed → EditFits l place row →
+    replaced l c place row ≡ outcome l c (putList l (place - 1) row) (reworked (putList l (place - 1) row) (place - 1) c)
 unfolding replaced onPassed
 replaced-edited l c place row s f = rw (s, sym (edit-passes l place row f))
 
@@ -91,7 +103,8 @@ module _ (l c₀ c : List ℕ) (x : Accepts l c₀ c) where
         let k = size-passed (length l′) (length c₀) made-size in
         let n : length (replicate {A = ℕ} (rows l′ * columnCount) 0) ≡ rows l′ * columnCount = length-replicate (rows l′ * columnCount) 0 in
         answer-same l′ (replicate (rows l′ * columnCount) 0) c₀
-        (sym (size-right (length l′) (length (replicate {A = ℕ} (rows l′ * columnCount) 0)) (k .whole-rows) (k .some-rows) (k .most-rows) (omega arith))) made-size ∙
+        (sym (size-right (length l′) (length (replicate {A = ℕ} (rows l′ * columnCount) 0)) (k .whole-rows) (k .some-rows) (k .most-rows)
+        (omega arith))) made-size ∙
         ap (λ (r : Result). r .answer) whole-made
 
 -- a replacement and an entry of the ledger
@@ -100,7 +113,9 @@ pub record Agrees (c₀ : List ℕ) (r : Replaced) (e : Entry) : Type 0 where
   pub list : r .list ≡ e .list
   pub accepted : whole (r .list) c₀ ≡ record { answer = Done; card = r .card }
 
-pub one-agrees : (l c₀ c : List ℕ) → whole l c₀ ≡ record { answer = Done; card = c } → (place : ℕ) (row : List ℕ) → Agrees c₀ (replaced l c place row) (entered l place row)
+pub one-agrees :
+    (l c₀ c : List ℕ) → whole l c₀ ≡ record { answer = Done; card = c } → (place : ℕ) (row : List ℕ) →
+    Agrees c₀ (replaced l c place row) (entered l place row)
 unfolding entered kept outcome ending
 one-agrees l c₀ c g place row =
     edit-cases l place row

@@ -93,7 +93,9 @@ module _ (l : List ℕ) (b : Feeds l) (i : ℕ) (h : i < rows l) where
 
       at-fed :
           k ≡ x →
-          ((y : ℕ) (c′ : List ℕ) → suc x ≤ y → y < rows l → ((z : ℕ) → suc x ≤ z → onPath l i z ≡ onPath l y z) → Rests c′ → workOut l (upFrom (suc x) m) c′ ≡ workOut l (pathOf l y) c′) →
+          ((y : ℕ) (c′ : List ℕ) → suc x ≤ y → y < rows l → ((z : ℕ) → suc x ≤ z → onPath l i z ≡ onPath l y z) → Rests
+          c′ → workOut l
+          (upFrom (suc x) m) c′ ≡ workOut l (pathOf l y) c′) →
           eqb (field l x atFeeder) 0 ≡ false → workOut l (x ∷ upFrom (suc x) m) c ≡ workOut l (pathOf l x) c
       at-fed e ih t =
           let z = eqb-false (field l x atFeeder) 0 t in
@@ -113,12 +115,15 @@ module _ (l : List ℕ) (b : Feeds l) (i : ℕ) (h : i < rows l) where
 
 -- on cards that hold the same past their rows, the calculation is the same
 pub calculation-same :
-    (l : List ℕ) → Feeds l → (c c′ : List ℕ) → rows l * columnCount ≤ length c → rows l * columnCount ≤ length c′ → drop (rows l * columnCount) c ≡ drop (rows l * columnCount) c′ →
+    (l : List ℕ) → Feeds l → (c c′ : List ℕ) → rows l * columnCount ≤ length c → rows l * columnCount ≤ length c′ → drop
+    (rows l * columnCount) c ≡
+    drop (rows l * columnCount) c′ →
     calculation l c ≡ calculation l c′
 unfolding framed
 calculation-same l b c c′ h h′ e = calculation-frame l b c′ c h′ h ∙ by-cases (calculation l c′) refl
   where
     by-cases : (w : Worked) → calculation l c′ ≡ w → framed (rows l * columnCount) c w ≡ w
     by-cases (finished d) q =
-        ap finished (ap (λ (t : List ℕ). take (rows l * columnCount) d ++ t) (e ∙ sym (calculation-keeps l c′ d q .past-rows)) ∙ take-append-drop (rows l * columnCount) d)
+        ap finished (ap (λ (t : List ℕ). take (rows l * columnCount) d ++ t) (e ∙ sym (calculation-keeps l c′ d q .past-rows)) ∙ take-append-drop
+        (rows l * columnCount) d)
     by-cases (refused x) q = refl

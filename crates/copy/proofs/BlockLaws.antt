@@ -57,7 +57,8 @@ sets-stands (a ∷ b) l at h =
 -- what a run of stores leaves is the list l′, where l and l′ agree outside the run and the run's numbers are those of l′
 pub sets-is :
     (b l l′ : List ℕ) (at : ℕ) → length l ≡ length l′ → at + length b ≤ length l → ((x : ℕ) → x < at → getD l x 0 ≡ getD l′ x 0) →
-    ((x : ℕ) → at + length b ≤ x → getD l x 0 ≡ getD l′ x 0) → ((k : ℕ) → k < length b → getD b k 0 ≡ getD l′ (at + k) 0) → sets l at b ≡ l′
+    ((x : ℕ) → at + length b ≤ x → getD l x 0 ≡ getD l′ x 0) → ((k : ℕ) → k < length b → getD b k 0 ≡ getD l′ (at + k) 0) →
+    sets l at b ≡ l′
 sets-is b l l′ at n r before behind within =
     ext-getD 0 (sets l at b) l′ (length-sets l at b ∙ n) (λ x _. by-place x (ltb x at) (ltb x (at + length b)) refl refl)
   where

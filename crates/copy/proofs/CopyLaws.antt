@@ -17,7 +17,9 @@ module _ (out₀ : List ℕ) (at : ℕ) (block : List ℕ) where
   pub copied-none : Copied out₀ 0
   copied-none = record { in-block = omega arith; same-length = refl; so-far = paste-zero out₀ at block }
 
-  pub copied-more : (out : List ℕ) (j : ℕ) → at + length block ≤ length out₀ → Copied out j → j < length block → Copied (set out (at + j) (getD block j 0)) (j + 1)
+  pub copied-more :
+      (out : List ℕ) (j : ℕ) → at + length block ≤ length out₀ → Copied out j → j < length block → Copied
+      (set out (at + j) (getD block j 0)) (j + 1)
   copied-more out j room c l =
       record {
         in-block = omega arith;

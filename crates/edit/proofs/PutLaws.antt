@@ -1,4 +1,4 @@
--- A row put into a list: what stands there afterwards, and that the old one put back gives the old list. Assumes nothing.
+-- A row put into a list: what stands there afterwards, and that the old one put back gives the old list.
 use mathlib.Core.Path.{_≡_, sym, ap, _∙_}
 use mathlib.Core.List.{List, _++_, append-assoc}
 use Prim.Native.Nat.{ℕ, _+_, _-_, _*_, _≤_, _<_}
@@ -21,14 +21,16 @@ module _ (l : List ℕ) (i : ℕ) (row : List ℕ) (h : PutReady l i row) where
   unfolding putList
   putList-before x b =
       let n : length (take (i * fieldCount) l) ≡ i * fieldCount = length-take-le (i * fieldCount) l (omega (arith, h .in-list)) in
-      List·getD-append (take (i * fieldCount) l ++ row) (drop (i * fieldCount + fieldCount) l) 0 x (omega (arith, length-append (take (i * fieldCount) l) row)) ∙
+      List·getD-append (take (i * fieldCount) l ++ row) (drop (i * fieldCount + fieldCount) l) 0 x
+      (omega (arith, length-append (take (i * fieldCount) l) row)) ∙
       List·getD-append (take (i * fieldCount) l) row 0 x (omega arith) ∙ getD-take (i * fieldCount) l x 0 b
 
   pub putList-within : (k : ℕ) → k < fieldCount → getD (putList l i row) (i * fieldCount + k) 0 ≡ getD row k 0
   unfolding putList
   putList-within k b =
       let n : length (take (i * fieldCount) l) ≡ i * fieldCount = length-take-le (i * fieldCount) l (omega (arith, h .in-list)) in
-      List·getD-append (take (i * fieldCount) l ++ row) (drop (i * fieldCount + fieldCount) l) 0 (i * fieldCount + k) (omega (arith, length-append (take (i * fieldCount) l) row, h .row-length)) ∙
+      List·getD-append (take (i * fieldCount) l ++ row) (drop (i * fieldCount + fieldCount) l) 0 (i * fieldCount + k)
+      (omega (arith, length-append (take (i * fieldCount) l) row, h .row-length)) ∙
       ap (λ (m : ℕ). getD (take (i * fieldCount) l ++ row) (m + k) 0) (sym n) ∙ getD-append-add (take (i * fieldCount) l) row k 0
 
   pub putList-after : (x : ℕ) → i * fieldCount + fieldCount ≤ x → getD (putList l i row) x 0 ≡ getD l x 0
@@ -37,12 +39,15 @@ module _ (l : List ℕ) (i : ℕ) (row : List ℕ) (h : PutReady l i row) where
       let n : length (take (i * fieldCount) l ++ row) ≡ i * fieldCount + fieldCount =
       length-append (take (i * fieldCount) l) row ∙ rw (length-take-le (i * fieldCount) l (omega (arith, h .in-list)), h .row-length) in
       let e : x ≡ i * fieldCount + fieldCount + (x - (i * fieldCount + fieldCount)) = omega arith in
-      ap (λ (x : ℕ). getD (take (i * fieldCount) l ++ row ++ drop (i * fieldCount + fieldCount) l) x 0) (e ∙ ap (λ (m : ℕ). m + (x - (i * fieldCount + fieldCount))) (sym n)) ∙
+      ap (λ (x : ℕ). getD (take (i * fieldCount) l ++ row ++ drop (i * fieldCount + fieldCount) l) x 0)
+      (e ∙ ap (λ (m : ℕ). m + (x - (i * fieldCount + fieldCount))) (sym n)) ∙
       getD-append-add (take (i * fieldCount) l ++ row) (drop (i * fieldCount + fieldCount) l) (x - (i * fieldCount + fieldCount)) 0 ∙
       getD-drop (i * fieldCount + fieldCount) l (x - (i * fieldCount + fieldCount)) 0 ∙ ap (λ (x : ℕ). getD l x 0) (sym e)
 
 -- the row that stood there, put back
-pub put-back : (l : List ℕ) (i : ℕ) (row old : List ℕ) → PutReady l i row → old ≡ take fieldCount (drop (i * fieldCount) l) → putList (putList l i row) i old ≡ l
+pub put-back :
+    (l : List ℕ) (i : ℕ) (row old : List ℕ) → PutReady l i row → old ≡ take fieldCount (drop (i * fieldCount) l) → putList
+    (putList l i row) i old ≡ l
 unfolding putList
 put-back l i row old h e =
     let n : length (take (i * fieldCount) l) ≡ i * fieldCount = length-take-le (i * fieldCount) l (omega (arith, h .in-list)) in

@@ -3,13 +3,12 @@ use mathlib.Core.Path.{_≡_, refl}
 use mathlib.Core.Bool.{Bool, true, false, cond, _&&_}
 use mathlib.Core.List.{List}
 use Prim.Native.Nat.{ℕ, _-_, _≤_}
-use native.Mathlib.Omega.{arith}
 use lib.Dec.{leb, eqb}
 use lib.ListN.{length, getD}
 use borrow.Author.Tests.{eqb-true, leb-true, le-leb, eq-eqb}
 use Rattle.layout.specs.Counts.{fieldCount}
 use Rattle.grid.specs.First.{first}
-use Rattle.grid.proofs.BoolLaws.{and-left, and-right, and-both, fails}
+use Rattle.grid.proofs.BoolLaws.{and-left, and-right, and-both, fails, zero-not-one}
 use Rattle.answers.specs.declared.Answer.the-variants.{Edit}
 use Rattle.answers.specs.declared.Tested.the-variants.{Passed, Refused}
 use Rattle.layout.specs.Fields.{atFeeder}
@@ -64,4 +63,4 @@ module _ (l : List ℕ) (place : ℕ) (row : List ℕ) where
     where
       by-cases : (b : Bool) → cond b Passed (Refused Edit) ≡ Passed → b ≡ true
       by-cases true q = refl
-      by-cases false q = absurd (let z : _≡_ {A = ℕ} 0 1 = cc in omega arith)
+      by-cases false q = absurd (zero-not-one cc)

@@ -19,7 +19,8 @@ putList l i row = take (i * fieldCount) l ++ row ++ drop (i * fieldCount + field
 -- 10 EDIT: the place is that of a row, the new row is 18 numbers, its field 1 is the place, its field 2 is the list's there
 unfoldable pub editRight : List ℕ → ℕ → List ℕ → Bool
 editRight l place row =
-    (leb 1 place && leb place (rows l)) && (eqb (length row) fieldCount && (eqb (getD row 0 0) place && eqb (getD row atFeeder 0) (field l (place - 1) atFeeder)))
+    (leb 1 place && leb place (rows l)) && (eqb (length row) fieldCount &&
+    (eqb (getD row 0 0) place && eqb (getD row atFeeder 0) (field l (place - 1) atFeeder)))
 
 unfoldable pub editTest : List ℕ → ℕ → List ℕ → Tested
 editTest l place row = cond (editRight l place row) Passed (Refused Edit)

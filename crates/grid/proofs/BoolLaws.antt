@@ -3,8 +3,13 @@ use mathlib.Core.Path.{_≡_, refl, sym, _∙_}
 use mathlib.Core.Bool.{Bool, true, false, not, _&&_, _||_, false≢true, true≢false}
 use mathlib.Core.Logic.{_⊎_, inl, inr, ⊎-elim}
 use Prim.Native.Nat.{ℕ, _≤_, _<_}
+use native.Mathlib.Omega.{arith}
 use lib.Dec.{ltb}
 use borrow.Author.Tests.{ltb-true, ltb-false}
+
+-- two constructors that are not the same: `cc` takes the equation to this one
+pub zero-not-one : _≡_ {A = ℕ} 0 1 → ⊥
+zero-not-one e = omega arith
 
 -- a test passes or fails
 pub passes-or-fails : (b : Bool) → (b ≡ true) ⊎ (b ≡ false)

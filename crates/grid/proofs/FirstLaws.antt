@@ -1,4 +1,4 @@
--- Laws of `first`: it gives the first number that passes, and nothing where none does. Assumes nothing.
+-- Laws of `first`: it gives the first number that passes, and nothing where none does.
 use mathlib.Core.Path.{_≡_, refl, _∙_}
 use mathlib.Core.Bool.{Bool, true, false}
 use mathlib.Core.Logic.{⊎-elim}
@@ -8,7 +8,7 @@ use native.Mathlib.Numerals.{add-one}
 use native.Mathlib.Omega.{arith}
 use Rattle.grid.specs.declared.Found.the-variants.{At, Nothing}
 use Rattle.grid.specs.First.{first}
-use Rattle.grid.proofs.BoolLaws.{passes-or-fails}
+use Rattle.grid.proofs.BoolLaws.{passes-or-fails, zero-not-one}
 
 module _ (ok : ℕ → Bool) where
   pub first-step-true : (i n : ℕ) → i < n → ok i ≡ true → first ok i (n - i) ≡ At i
@@ -57,7 +57,7 @@ module _ (ok : ℕ → Bool) where
 
   pub first-at : (n i k : ℕ) → first ok i n ≡ At k → FirstAt i n k
   unfolding first
-  first-at zero i k e = absurd (let z : _≡_ {A = ℕ} 0 1 = cc in omega arith)
+  first-at zero i k e = absurd (zero-not-one cc)
   first-at (suc n) i k e =
       ⊎-elim
       (λ (p : ok i ≡ true).
@@ -96,7 +96,7 @@ module _ (ok : ℕ → Bool) where
       ⊎-elim
       (λ (p : ok i ≡ true).
       let q : At i ≡ Nothing = rw p at e in
-      absurd (let z : _≡_ {A = ℕ} 0 1 = cc in omega arith))
+      absurd (zero-not-one cc))
       (λ (p : ok i ≡ false).
       ⊎-elim
       (λ (s : i ≡ j). rw (← s) p)

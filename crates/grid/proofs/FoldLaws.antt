@@ -1,4 +1,4 @@
--- Laws of sums, maxima and `every` below n. Assumes nothing.
+-- Laws of sums, maxima and `every` below n.
 use mathlib.Core.Path.{_≡_, refl, ap, ap₂, _∙_}
 use mathlib.Core.Bool.{Bool, true, false, cond, _&&_, _||_, or-false, or-true}
 use mathlib.Core.Logic.{_⊎_, inl, inr, ⊎-elim}
@@ -80,7 +80,8 @@ sumTo-stops f i (suc d) h =
     omega arith)
 
 -- the sum over all but one, and that one
-pub sumTo-others : (f g : ℕ → ℕ) (n k : ℕ) → k < n → g k ≡ 0 → ((j : ℕ) → (j ≡ k → ⊥) → f j ≡ g j) → sumTo n f ≡ sumTo n g + f k
+pub sumTo-others :
+    (f g : ℕ → ℕ) (n k : ℕ) → k < n → g k ≡ 0 → ((j : ℕ) → (j ≡ k → ⊥) → f j ≡ g j) → sumTo n f ≡ sumTo n g + f k
 unfolding sumTo
 sumTo-others f g zero k l z h = absurd (not-suc-le-zero l)
 sumTo-others f g (suc n) k l z h =
@@ -144,7 +145,8 @@ sumTo-zero f (suc n) h =
     omega arith
 
 -- the maximum over all but one, and that one
-pub maxTo-others : (f g : ℕ → ℕ) (n k : ℕ) → k < n → g k ≡ 0 → ((j : ℕ) → (j ≡ k → ⊥) → f j ≡ g j) → maxTo n f ≡ max (maxTo n g) (f k)
+pub maxTo-others :
+    (f g : ℕ → ℕ) (n k : ℕ) → k < n → g k ≡ 0 → ((j : ℕ) → (j ≡ k → ⊥) → f j ≡ g j) → maxTo n f ≡ max (maxTo n g) (f k)
 unfolding maxTo
 maxTo-others f g zero k l z h = absurd (not-suc-le-zero l)
 maxTo-others f g (suc n) k l z h =

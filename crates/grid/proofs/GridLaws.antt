@@ -1,4 +1,4 @@
--- Laws of `leastOn`: available, passing, and no other available value that passes is less. Assumes nothing.
+-- Laws of `leastOn`: available, passing, and no other available value that passes is less.
 use mathlib.Core.Path.{_≡_, refl, sym, ap, _∙_}
 use mathlib.Core.Bool.{Bool, true, false, cond, _&&_}
 use mathlib.Core.Logic.{_⊎_, inl, inr, ⊎-elim}
@@ -11,7 +11,7 @@ use Rattle.grid.specs.declared.Found.{Found}
 use Rattle.grid.specs.declared.Found.the-variants.{At, Nothing}
 use Rattle.grid.specs.First.{first}
 use Rattle.grid.specs.Grid.{Available, count, valueAt, leastOn}
-use Rattle.grid.proofs.BoolLaws.{passes-or-fails, lt-or-le, not-both, fails, and-left, and-right, and-both}
+use Rattle.grid.proofs.BoolLaws.{passes-or-fails, lt-or-le, not-both, fails, and-left, and-right, and-both, zero-not-one}
 use Rattle.grid.proofs.FirstLaws.{first-at, first-nothing}
 
 -- m steps are available exactly where they end at or below high
@@ -55,15 +55,17 @@ module _ (low high step : ℕ) (p : 0 < step) (ok : ℕ → Bool) where
             (λ (g : m ≤ a .steps). let k = mul-le-mul-right step g in omega (arith, a .on-grid))
             (lt-or-le (a .steps) m);
       }
-  least-found Nothing x e q = absurd (let z : _≡_ {A = ℕ} 0 1 = cc in omega arith)
+  least-found Nothing x e q = absurd (zero-not-one cc)
 
   pub leastOn-least : (x : ℕ) → leastOn low high step ok ≡ At x → Least x
   unfolding leastOn
   leastOn-least x e = least-found (first (λ m. ok (low + m * step)) 0 (count low high step)) x refl e
 
-  none-found : (f : Found) → first (λ m. ok (low + m * step)) 0 (count low high step) ≡ f → valueAt low step f ≡ Nothing → (y : ℕ) → Available low high step y → ok y ≡ false
+  none-found :
+      (f : Found) → first (λ m. ok (low + m * step)) 0 (count low high step) ≡ f → valueAt low step f ≡ Nothing → (y : ℕ) →
+      Available low high step y → ok y ≡ false
   unfolding valueAt
-  none-found (At m) e q y a = absurd (let z : _≡_ {A = ℕ} 0 1 = cc in omega arith)
+  none-found (At m) e q y a = absurd (zero-not-one cc)
   none-found Nothing e q y a =
       rw (a .on-grid)
       (first-nothing (λ m. ok (low + m * step)) (count low high step) 0 e (a .steps) (omega arith)

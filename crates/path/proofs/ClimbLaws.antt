@@ -75,7 +75,9 @@ module _ (l : List ℕ) (i : ℕ) (c s : List ℕ) (r : ClimbReady l i c s) wher
     unfolding step stepBy onSettled testedOf cardOf
     climb-refused a e = rw goes-on (by-cases (settledBy (rowAt l i) (fedAt s i)) z)
       where
-        by-cases : (o : Settled) → Stepped (stepBy (rowAt l i) i c s o) t c′ s′ → Reworked (onSettled i o (λ k. workOut l above (putCardRow c i k))) c (Refused a) c′
+        by-cases :
+            (o : Settled) → Stepped (stepBy (rowAt l i) i c s o) t c′ s′ →
+            Reworked (onSettled i o (λ k. workOut l above (putCardRow c i k))) c (Refused a) c′
         by-cases (Set o) z = absurd (never-passed (sym (z .answer) ∙ e))
         by-cases (Unset why) z = record { answer = sym e ∙ z .answer; card = z .card }
 
@@ -159,15 +161,21 @@ module _ (l : List ℕ) (i : ℕ) (c s : List ℕ) (r : ClimbReady l i c s) wher
 
         -- a refusal above: the row's old numbers go back
         pub climb-back :
-            (t′ : Tested) (a : Answer) (c″ c‴ : List ℕ) (old : CardRow) → Reworked (workOut l (pathOf l (f - 1)) c′) c′ t′ c″ → t′ ≡ Refused a →
+            (t′ : Tested) (a : Answer) (c″ c‴ : List ℕ) (old : CardRow) → Reworked (workOut l (pathOf l (f - 1)) c′) c′ t′ c″ →
+            t′ ≡ Refused a →
             old ≡ cardRowAt c i → c‴ ≡ putCardRow c″ i old → Reworked (workOut l (pathOf l i) c) c (Refused a) c‴
         unfolding testedOf cardOf
         climb-back t′ a c″ c‴ old w g k b‴ =
             let p = passes e in
             let b = reworked-refused _ c′ c′ t′ c″ w a g in
             subst (λ (x : Worked). Reworked x c (Refused a) c‴) (sym (climb-above ∙ b .0))
-            (record { answer = refl; card = b‴ ∙ ap₂ (λ (x : List ℕ) (o : CardRow). putCardRow x i o) (b .1 ∙ p .card) k ∙ putCardRow-back c i (climb-works .in-card) (p .settings) })
+            (record {
+              answer = refl;
+              card = b‴ ∙ ap₂ (λ (x : List ℕ) (o : CardRow). putCardRow x i o) (b .1 ∙ p .card) k ∙ putCardRow-back c i
+                  (climb-works .in-card) (p .settings);
+            })
 
         pub climb-done :
-            (t′ : Tested) (c″ : List ℕ) → Reworked (workOut l (pathOf l (f - 1)) c′) c′ t′ c″ → t′ ≡ Passed → Reworked (workOut l (pathOf l i) c) c Passed c″
+            (t′ : Tested) (c″ : List ℕ) → Reworked (workOut l (pathOf l (f - 1)) c′) c′ t′ c″ → t′ ≡ Passed → Reworked
+            (workOut l (pathOf l i) c) c Passed c″
         climb-done t′ c″ w g = subst (λ (x : Worked). Reworked x c Passed c″) (sym climb-above) (reworked-done _ c c′ t′ c″ w g)

@@ -113,7 +113,8 @@ module _ (l : List ℕ) (b : Feeds l) where
   pub on-feeder : (i j : ℕ) → i < rows l → onPath l i j ≡ true → (field l j atFeeder ≡ 0 → ⊥) → onPath l i (field l j atFeeder - 1) ≡ true
   on-feeder =
       on-path (λ i j. (field l j atFeeder ≡ 0 → ⊥) → onPath l i (field l j atFeeder - 1) ≡ true)
-      (λ i h n. on-fed i (field l i atFeeder - 1) h n ∙ rw (on-self (field l i atFeeder - 1) (fed-climbs i h n .within)) (or-true (eqb (field l i atFeeder - 1) i)))
+      (λ i h n. on-fed i (field l i atFeeder - 1) h n ∙ rw (on-self (field l i atFeeder - 1) (fed-climbs i h n .within))
+      (or-true (eqb (field l i atFeeder - 1) i)))
       (λ i j h k g p n. on-fed i (field l j atFeeder - 1) h (λ z. omega (arith, k .above)) ∙ rw (p n) (or-true (eqb (field l j atFeeder - 1) i)))
 
   pub off-below : (i j : ℕ) → i < rows l → j < i → onPath l i j ≡ false

@@ -67,13 +67,15 @@ module _ (l : List ℕ) (i : ℕ) (c s₀ : List ℕ) (a : RestReady l i c s₀)
         let n = eqb-false k j e in
         rw (e, or-false (rest l i j k))
         (ap (λ (b : Bool). b && not (onPath l i k))
-        (same-test (ltb k (j + 1)) (ltb k j) (λ t. lt-ltb k j (omega (arith, ltb-true k (j + 1) t))) (λ t. lt-ltb k (j + 1) (omega (arith, ltb-true k j t))))))
+        (same-test (ltb k (j + 1)) (ltb k j) (λ t. lt-ltb k j (omega (arith, ltb-true k (j + 1) t)))
+        (λ t. lt-ltb k (j + 1) (omega (arith, ltb-true k j t))))))
         (passes-or-fails (eqb k j))
 
     -- on the path it is passed over
     pub rest-skip : (s′ : List ℕ) (next′ : ℕ) → j ≡ next → s′ ≡ s → next′ ≡ aboveOf l j → Resting l i c s₀ s′ next′ (j + 1)
     rest-skip s′ next′ e es q =
-        let on : onPath l i j ≡ true = v .left j (omega arith) ∙ rw (← e) (sym (on-from l (v .working .feeds) j j h) ∙ on-self l (v .working .feeds) j h) in
+        let on : onPath l i j ≡ true = v .left j (omega arith) ∙ rw (← e)
+        (sym (on-from l (v .working .feeds) j j h) ∙ on-self l (v .working .feeds) j h) in
         rw es
         (record {
           within = omega arith;
@@ -81,7 +83,8 @@ module _ (l : List ℕ) (i : ℕ) (c s₀ : List ℕ) (a : RestReady l i c s₀)
               working-same l (rest l i j) (rest l i (j + 1)) every-row every-row c s
               (λ k _. sym (rest-next k ∙ rw (on, and-false (eqb k j), or-false (rest l i j k)))) (λ k m. m) (v .working);
           not-passed = omega (arith, above-above l (v .working .feeds) j h);
-          left = λ k b. v .left k (omega arith) ∙ rw (← e, q) (sym (on-from l (v .working .feeds) j k h) ∙ on-next l (v .working .feeds) j k h (omega arith));
+          left = λ k b. v .left k (omega arith) ∙ rw (← e, q)
+              (sym (on-from l (v .working .feeds) j k h) ∙ on-next l (v .working .feeds) j k h (omega arith));
           sums-length = v .sums-length;
         })
 
@@ -101,7 +104,8 @@ module _ (l : List ℕ) (i : ℕ) (c s₀ : List ℕ) (a : RestReady l i c s₀)
             push = push-ready l (rest l i j) every-row c s (v .working) j h found (λ _. refl);
           }
 
-      pub rest-push : (s′ : List ℕ) (next′ : ℕ) → s′ ≡ pushed (rowAt l j) (cardRowAt c j) s → next′ ≡ next → Resting l i c s₀ s′ next′ (j + 1)
+      pub rest-push :
+          (s′ : List ℕ) (next′ : ℕ) → s′ ≡ pushed (rowAt l j) (cardRowAt c j) s → next′ ≡ next → Resting l i c s₀ s′ next′ (j + 1)
       rest-push s′ next′ e en =
           rw (e, en)
           (record {

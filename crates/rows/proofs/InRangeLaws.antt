@@ -9,7 +9,7 @@ use borrow.Author.Tests.{eqb-true, ltb-true, leb-true, not-false, ne-eqb, eq-eqb
 use Rattle.layout.specs.Counts.{fieldCount}
 use Rattle.grid.specs.declared.Found.{Found}
 use Rattle.grid.specs.declared.Found.the-variants.{At, Nothing}
-use Rattle.grid.proofs.BoolLaws.{and-left, and-right}
+use Rattle.grid.proofs.BoolLaws.{and-left, and-right, zero-not-one}
 use Rattle.grid.proofs.FirstLaws.{first-none, first-nothing}
 use Rattle.answers.specs.declared.Tested.{Tested}
 use Rattle.answers.specs.declared.Tested.the-variants.{Passed}
@@ -49,17 +49,17 @@ module _ (l : List ℕ) (i : ℕ) where
 module _ (l : List ℕ) where
   tree-passed : (f : Found) → treeAnswer f ≡ Passed → f ≡ Nothing
   unfolding treeAnswer
-  tree-passed (At i) e = absurd (let z : _≡_ {A = ℕ} 0 1 = cc in omega arith)
+  tree-passed (At i) e = absurd (zero-not-one cc)
   tree-passed Nothing e = refl
 
   fields-passed : (f : Found) (t : Tested) → fieldAnswer l t f ≡ Passed → f ≡ Nothing
   unfolding fieldAnswer
-  fields-passed (At i) t e = absurd (let z : _≡_ {A = ℕ} 0 1 = cc in omega arith)
+  fields-passed (At i) t e = absurd (zero-not-one cc)
   fields-passed Nothing t e = refl
 
   then-passed : (f : Found) (t : Tested) → fieldAnswer l t f ≡ Passed → t ≡ Passed
   unfolding fieldAnswer
-  then-passed (At i) t e = absurd (let z : _≡_ {A = ℕ} 0 1 = cc in omega arith)
+  then-passed (At i) t e = absurd (zero-not-one cc)
   then-passed Nothing t e = e
 
   pub passed-in-range : rowsTest l ≡ Passed → InRange l
@@ -85,7 +85,8 @@ module _ (l : List ℕ) where
   unfolding rowsTest treeTest fieldAnswer treeAnswer
   in-range-passes a b =
       rw (
-        first-none (rowAtFault l) (rows l) 0 (λ i x y. rw (eq-eqb _ _ (fault-free l i (λ k h. a .fields-right i k (omega arith) h) (a .low-at-most-high i (omega arith))))),
+        first-none (rowAtFault l) (rows l) 0 (λ i x y. rw
+            (eq-eqb _ _ (fault-free l i (λ k h. a .fields-right i k (omega arith) h) (a .low-at-most-high i (omega arith))))),
         first-none (fedWrongly l) (rows l) 0 (λ i x y. rw (b .feeds-right i (omega arith))),
       )
 

@@ -4,9 +4,8 @@ use mathlib.Core.Bool.{Bool, true, false, not, cond, _&&_}
 use mathlib.Core.List.{List}
 use Prim.Native.Nat.{ℕ, _+_, _-_, _*_, _/_, _%_, _≤_, _<_}
 use lib.Dec.{leb, eqb}
-use native.Mathlib.Omega.{arith}
 use Rattle.layout.specs.Counts.{fieldCount, columnCount, listMost}
-use Rattle.grid.proofs.BoolLaws.{and-left, and-right}
+use Rattle.grid.proofs.BoolLaws.{and-left, and-right, zero-not-one}
 use borrow.Author.Tests.{eqb-true, leb-true, le-leb, lt-leb, lt-ltb, le-ltb, eq-eqb, ne-eqb}
 use Rattle.grid.specs.declared.Found.{Found}
 use Rattle.grid.specs.declared.Found.the-variants.{At, Nothing}
@@ -17,7 +16,8 @@ use Rattle.answers.specs.declared.Tested.{Tested}
 use Rattle.answers.specs.declared.Tested.the-variants.{Passed, Refused}
 use Rattle.layout.specs.Fields.{atFeeder, atKind, atLow, atHigh}
 use Rattle.layout.specs.List.{rows, field}
-use Rattle.rows.specs.Tests.{fieldRight, faultAfter, rowFault, rowAtFault, feedsRight, fedWrongly, sizeTest, fieldAnswer, fieldsTest, rowsTest, treeAnswer, treeTest}
+use Rattle.rows.specs.Tests.{fieldRight, faultAfter, rowFault, rowAtFault, feedsRight, fedWrongly, sizeTest, fieldAnswer, fieldsTest, rowsTest}
+use Rattle.rows.specs.Tests.{treeAnswer, treeTest}
 
 -- the tests that the loops search with
 abbrev pub fieldWrong : List ℕ → ℕ → ℕ → Bool
@@ -58,14 +58,14 @@ module _ (l : List ℕ) where
     where
       by-cases : (f : Found) → fieldAnswer l Passed f ≡ Refused a → Refused a ≡ fieldAnswer l (treeTest l) f
       by-cases (At i) g = sym g
-      by-cases Nothing g = absurd (let z : _≡_ {A = ℕ} 0 1 = cc in omega arith)
+      by-cases Nothing g = absurd (zero-not-one cc)
 
   pub rows-tree : (t u : Tested) → t ≡ fieldsTest l → t ≡ Passed → u ≡ treeTest l → u ≡ rowsTest l
   unfolding rowsTest fieldsTest fieldAnswer
   rows-tree t u q e v = by-cases (first (rowAtFault l) 0 (rows l)) (sym q ∙ e)
     where
       by-cases : (f : Found) → fieldAnswer l Passed f ≡ Passed → u ≡ fieldAnswer l (treeTest l) f
-      by-cases (At i) g = absurd (let z : _≡_ {A = ℕ} 0 1 = cc in omega arith)
+      by-cases (At i) g = absurd (zero-not-one cc)
       by-cases Nothing g = v
 
   pub tree-found : (i : ℕ) → first (fedWrongly l) 0 (rows l) ≡ At i → Refused (Tree (i + 1)) ≡ treeTest l
@@ -106,11 +106,13 @@ module _ (len room : ℕ) where
   unfolding sizeTest
   size-over e g h = rw (eq-eqb (len % fieldCount) 0 e, le-leb fieldCount len g, lt-leb len listMost h)
 
-  pub size-short : len % fieldCount ≡ 0 → fieldCount ≤ len → len ≤ listMost → room < columnCount * (len / fieldCount) → Refused Room ≡ sizeTest len room
+  pub size-short :
+      len % fieldCount ≡ 0 → fieldCount ≤ len → len ≤ listMost → room < columnCount * (len / fieldCount) → Refused Room ≡ sizeTest len room
   unfolding sizeTest
   size-short e g h k = rw (eq-eqb (len % fieldCount) 0 e, le-leb fieldCount len g, le-leb len listMost h, lt-leb (columnCount * (len / fieldCount)) room k)
 
-  pub size-right : len % fieldCount ≡ 0 → fieldCount ≤ len → len ≤ listMost → columnCount * (len / fieldCount) ≤ room → Passed ≡ sizeTest len room
+  pub size-right :
+      len % fieldCount ≡ 0 → fieldCount ≤ len → len ≤ listMost → columnCount * (len / fieldCount) ≤ room → Passed ≡ sizeTest len room
   unfolding sizeTest
   size-right e g h k = rw (eq-eqb (len % fieldCount) 0 e, le-leb fieldCount len g, le-leb len listMost h, le-leb (columnCount * (len / fieldCount)) room k)
 
@@ -123,9 +125,12 @@ pub record SizeRight (len room : ℕ) : Type 0 where
 
 pub size-passed : (len room : ℕ) → sizeTest len room ≡ Passed → SizeRight len room
 unfolding sizeTest
-size-passed len room e = by-cases (eqb (len % fieldCount) 0 && (leb fieldCount len && leb len listMost)) (leb (columnCount * (len / fieldCount)) room) refl refl e
+size-passed len room e =
+    by-cases (eqb (len % fieldCount) 0 && (leb fieldCount len && leb len listMost)) (leb (columnCount * (len / fieldCount)) room) refl refl e
   where
-    by-cases : (a b : Bool) → (eqb (len % fieldCount) 0 && (leb fieldCount len && leb len listMost)) ≡ a → leb (columnCount * (len / fieldCount)) room ≡ b → cond a (cond b Passed (Refused Room)) (Refused Count) ≡ Passed → SizeRight len room
+    by-cases :
+        (a b : Bool) → (eqb (len % fieldCount) 0 && (leb fieldCount len && leb len listMost)) ≡ a → leb (columnCount * (len / fieldCount)) room ≡ b →
+        cond a (cond b Passed (Refused Room)) (Refused Count) ≡ Passed → SizeRight len room
     by-cases true true p q e =
         let r = and-right (eqb (len % fieldCount) 0) (leb fieldCount len && leb len listMost) p in
         record {
@@ -134,5 +139,5 @@ size-passed len room e = by-cases (eqb (len % fieldCount) 0 && (leb fieldCount l
           most-rows = leb-true len listMost (and-right (leb fieldCount len) (leb len listMost) r);
           card-room = leb-true (columnCount * (len / fieldCount)) room q;
         }
-    by-cases true false p q e = absurd (let z : _≡_ {A = ℕ} 0 1 = cc in omega arith)
-    by-cases false b p q e = absurd (let z : _≡_ {A = ℕ} 0 1 = cc in omega arith)
+    by-cases true false p q e = absurd (zero-not-one cc)
+    by-cases false b p q e = absurd (zero-not-one cc)

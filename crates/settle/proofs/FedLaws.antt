@@ -62,7 +62,9 @@ module _ (v : View) (a : AllBounded v) (k : Settings) (i : ℕ) (h : i < v .coun
       (λ x n. rw (ne-eqb x j n, and-true (fed v i x))) ∙
       ap (λ (x : ℕ). othersLoad v i j + x) (counted-fed (loadOf v j) g)
 
-  clear-at-most : (j : ℕ) → j < v .count → fed v i j ≡ true → k j .pickup * v .row j .volts + othersLoad v i j ≤ gathered v k i .excess + gathered v k i .load - reach
+  clear-at-most :
+      (j : ℕ) → j < v .count → fed v i j ≡ true →
+      k j .pickup * v .row j .volts + othersLoad v i j ≤ gathered v k i .excess + gathered v k i .load - reach
   clear-at-most j b g =
       let m = le-maxTo (λ j. cond (fed v i j) (excess (v .row j) (k j)) 0) (v .count) j b in
       omega (arith, load-to j b, load-others j b g, counted-fed (excess (v .row j) (k j)) g)
@@ -89,7 +91,8 @@ module _ (v : View) (a : AllBounded v) (k : Settings) (i : ℕ) (h : i < v .coun
       each-fed-of v i (λ j. clearOf v k i j I)
       (λ j b g. le-leb _ _ (le-trans (mul-le-mul-left 11 (clear-at-most j b g)) (leb-true _ _ t)))
 
-  clear-greatest : (I : ℕ) → eachFed v i (λ j. clearOf v k i j I) ≡ true → 11 * (gathered v k i .excess + gathered v k i .load - reach) ≤ 10 * I * v .row i .volts
+  clear-greatest :
+      (I : ℕ) → eachFed v i (λ j. clearOf v k i j I) ≡ true → 11 * (gathered v k i .excess + gathered v k i .load - reach) ≤ 10 * I * v .row i .volts
   unfolding clearOf
   clear-greatest I t =
       ⊎-elim
@@ -120,7 +123,9 @@ module _ (v : View) (a : AllBounded v) (k : Settings) (i : ℕ) (h : i < v .coun
       le-leb (12 * I * v .row i .volts) (10 * v .row j .far * v .row j .volts)
       (omega (arith, mul-assoc 10 (v .row j .far) (v .row j .volts), far-to j b, counted-fed (shortfall (v .row j)) g))))
 
-  backs-greatest : (I : ℕ) → I ≤ 100000000 → eachFed v i (λ j. backsUp (v .row i) (v .row j) I) ≡ true → 12 * I * v .row i .volts ≤ 10 * (reach - gathered v k i .shortfall)
+  backs-greatest :
+      (I : ℕ) → I ≤ 100000000 → eachFed v i (λ j. backsUp (v .row i) (v .row j) I) ≡ true →
+      12 * I * v .row i .volts ≤ 10 * (reach - gathered v k i .shortfall)
   unfolding backsUp
   backs-greatest I b t =
       let most : 12 * I * v .row i .volts ≤ 600000000000000 = mul-le-mul (mul-le-mul-left 12 b) (a i h .volts-to) in
@@ -151,13 +156,19 @@ module _ (v : View) (a : AllBounded v) (k : Settings) (i : ℕ) (h : i < v .coun
       each-fed-of v i (λ j. gradedAbove (v .row j) (k j) t)
       (λ j b g.
       le-leb (earliest (v .row j) (k j)) t
-      (omega (arith, leb-true (gathered v k i .earliest) t e, le-maxTo (λ j. cond (fed v i j) (earliest (v .row j) (k j)) 0) (v .count) j b, counted-fed (earliest (v .row j) (k j)) g))))
+      (omega (
+        arith,
+        leb-true (gathered v k i .earliest) t e,
+        le-maxTo (λ j. cond (fed v i j) (earliest (v .row j) (k j)) 0) (v .count) j b,
+        counted-fed (earliest (v .row j) (k j)) g,
+      ))))
       (λ e.
       le-leb (gathered v k i .earliest) t
       (⊎-elim
       (λ z. omega arith)
       (λ m.
-      let c : earliest (v .row (m .at)) (k (m .at)) ≤ t = leb-true _ _ (each-fed-at v i (λ j. gradedAbove (v .row j) (k j) t) e (m .at) (m .below) (m .counts)) in
+      let c : earliest (v .row (m .at)) (k (m .at)) ≤ t = leb-true _ _
+      (each-fed-at v i (λ j. gradedAbove (v .row j) (k j) t) e (m .at) (m .below) (m .counts)) in
       omega (arith, m .is))
       (greatest (fed v i) (λ j. earliest (v .row j) (k j)) (v .count))))
 

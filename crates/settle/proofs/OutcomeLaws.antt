@@ -6,6 +6,7 @@ use native.Mathlib.Nat.{mul-comm, le-trans}
 use native.Mathlib.Omega.{arith}
 use lib.Dec.{leb, eqb}
 use borrow.Author.Tests.{eq-eqb, ne-eqb}
+use Rattle.grid.proofs.BoolLaws.{zero-not-one}
 use Rattle.answers.specs.declared.Reason.the-variants.{Pickup, Delay}
 use Rattle.grid.specs.declared.Found.{Found}
 use Rattle.grid.specs.declared.Found.the-variants.{At, Nothing}
@@ -96,8 +97,8 @@ module _ (r : Row) where
 
   pub outcome-set : (a b : Found) (o : Outcome) → outcomeOf r a b ≡ Set o → OutcomeIs r a b o
   unfolding outcomeOf
-  outcome-set Nothing b o e = absurd (let z : _≡_ {A = ℕ} 0 1 = cc in omega arith)
-  outcome-set (At I) Nothing o e = absurd (let z : _≡_ {A = ℕ} 0 1 = cc in omega arith)
+  outcome-set Nothing b o e = absurd (zero-not-one cc)
+  outcome-set (At I) Nothing o e = absurd (zero-not-one cc)
   outcome-set (At I) (At t) o e =
       let q = same-outcome (record { pickup = I; delay = t; cutoff = cutoffOf r }) o e in
       record {
@@ -109,14 +110,14 @@ module _ (r : Row) where
   pub outcome-no-pickup : (a b : Found) → outcomeOf r a b ≡ Unset Pickup → a ≡ Nothing
   unfolding outcomeOf
   outcome-no-pickup Nothing b e = refl
-  outcome-no-pickup (At I) Nothing e = absurd (let z : _≡_ {A = ℕ} 0 1 = cc in omega arith)
-  outcome-no-pickup (At I) (At t) e = absurd (let z : _≡_ {A = ℕ} 0 1 = cc in omega arith)
+  outcome-no-pickup (At I) Nothing e = absurd (zero-not-one cc)
+  outcome-no-pickup (At I) (At t) e = absurd (zero-not-one cc)
 
   pub outcome-no-delay : (a b : Found) → outcomeOf r a b ≡ Unset Delay → ((I : ℕ) × (a ≡ At I)) × (b ≡ Nothing)
   unfolding outcomeOf
-  outcome-no-delay Nothing b e = absurd (let z : _≡_ {A = ℕ} 0 1 = cc in omega arith)
+  outcome-no-delay Nothing b e = absurd (zero-not-one cc)
   outcome-no-delay (At I) Nothing e = ((I, refl), refl)
-  outcome-no-delay (At I) (At t) e = absurd (let z : _≡_ {A = ℕ} 0 1 = cc in omega arith)
+  outcome-no-delay (At I) (At t) e = absurd (zero-not-one cc)
 
   -- the settings that are found are at most what their columns hold
   pub outcome-bounded :

@@ -37,8 +37,10 @@ module _ (r : Row) (f : Fed) (a : Bounded r) where
   pickup-bound b₁ b₂ e₁ e₂ x =
       max-leb b₁ b₂ x ∙
       ap₂ _&&_
-      (ap (λ (b : ℕ). leb b x) e₁ ∙ ceilDiv-leb _ _ x (omega (arith, a .return-from)) ∙ ap (leb (11 * r .selfstart * r .work)) (regroup x (r .returnfactor)))
-      (ap (λ (b : ℕ). leb b x) e₂ ∙ ceilDiv-leb _ _ x (omega (arith, a .volts-from)) ∙ ap (leb (11 * (f .excess + f .load - reach))) (regroup x (r .volts)))
+      (ap (λ (b : ℕ). leb b x) e₁ ∙ ceilDiv-leb _ _ x (omega (arith, a .return-from)) ∙ ap (leb (11 * r .selfstart * r .work))
+      (regroup x (r .returnfactor)))
+      (ap (λ (b : ℕ). leb b x) e₂ ∙ ceilDiv-leb _ _ x (omega (arith, a .volts-from)) ∙ ap (leb (11 * (f .excess + f .load - reach)))
+      (regroup x (r .volts)))
 
   -- P3 and P4
   abbrev pub upper : ℕ → Bool
@@ -57,8 +59,10 @@ module _ (r : Row) (f : Fed) (a : Bounded r) where
   unfolding seesOwnZone backsUpAll
   upper-down x y l t =
       let zone = leb-true (15 * y) (10 * r .far) (and-left (leb (15 * y) (10 * r .far)) (leb (12 * y * r .volts) (10 * (reach - f .shortfall))) t) in
-      let back = leb-true (12 * y * r .volts) (10 * (reach - f .shortfall)) (and-right (leb (15 * y) (10 * r .far)) (leb (12 * y * r .volts) (10 * (reach - f .shortfall))) t) in
-      and-both (le-leb (15 * x) (10 * r .far) (omega arith)) (le-leb (12 * x * r .volts) (10 * (reach - f .shortfall)) (le-trans (mul-le-mul-right (r .volts) (mul-le-mul-left 12 l)) back))
+      let back = leb-true (12 * y * r .volts) (10 * (reach - f .shortfall))
+      (and-right (leb (15 * y) (10 * r .far)) (leb (12 * y * r .volts) (10 * (reach - f .shortfall))) t) in
+      and-both (le-leb (15 * x) (10 * r .far) (omega arith))
+      (le-leb (12 * x * r .volts) (10 * (reach - f .shortfall)) (le-trans (mul-le-mul-right (r .volts) (mul-le-mul-left 12 l)) back))
 
   -- the least available pickup from the bound on, kept where P3 and P4 hold
   pub pickup-found :
@@ -100,5 +104,7 @@ module _ (r : Row) (f : Fed) where
       by-kind true e x = mathlib.Core.Bool.and-comm e (leb 100 x)
       by-kind false e x = ap (λ (t : Bool). e && t) (le-leb 0 x (omega arith)) ∙ mathlib.Core.Bool.and-true e
 
-  pub delay-from : (x : Found) (b m : ℕ) → x ≡ leastDelay r (leb b) → b ≡ max (f .earliest) m → m ≡ cond (eqb (r .kind) 3) 100 0 → x ≡ leastDelay r (delayBy r f)
+  pub delay-from :
+      (x : Found) (b m : ℕ) → x ≡ leastDelay r (leb b) → b ≡ max (f .earliest) m → m ≡ cond (eqb (r .kind) 3) 100 0 → x ≡ leastDelay
+      r (delayBy r f)
   delay-from x b m e g k = e ∙ ap (λ (b : ℕ). leastDelay r (leb b)) g ∙ least-motor m k

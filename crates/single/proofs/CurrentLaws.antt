@@ -1,5 +1,5 @@
 -- `currentOf` gives a whole number of mA exactly where `Gives` says so, and refuses what section 5 names: by cases on the single, its quotient being
--- what `Rounds` says. Assumes nothing.
+-- what `Rounds` says.
 use Prim.Native.Nat.{ℕ, zero, suc, _*_, _≤_, _<_}
 use native.Mathlib.Nat.{zero-mul, mul-one, zero-lt-suc}
 use native.Mathlib.Omega.{arith}
@@ -12,6 +12,7 @@ use lib.Ieee.{Float, nan, inf, fin, up, down, isNan}
 use lib.Ieee.Fits.{down-pos}
 use denote.Floats.{passes}
 use borrow.Author.Tests.{lt-ltb, le-leb}
+use Rattle.grid.proofs.BoolLaws.{zero-not-one}
 use Rattle.single.specs.declared.Rounding.{Rounding}
 use Rattle.single.specs.declared.Current.{Current}
 use Rattle.single.specs.declared.Current.the-variants.{Milliamperes, Refused}
@@ -23,7 +24,7 @@ use Rattle.single.proofs.ScreenLaws.{allowed-low, allowed-high}
 -- ---- what `ifAllowed` gives
 
 refused-is-none : (k : ℕ) → Refused ≡ Milliamperes k → ⊥
-refused-is-none k h = let z : _≡_ {A = ℕ} 0 1 = cc in omega arith
+refused-is-none k h = zero-not-one cc
 
 allowed-given : (w k : ℕ) → ifAllowed w ≡ Milliamperes k → (w ≡ k) × T (allowed w)
 allowed-given w k h = go (allowed w) refl h
@@ -78,7 +79,8 @@ gives-current to (fin true (suc m) e) scale k h = absurd (none m (h .0 refl))
 -- zero over anything is 0, which is not allowed
 zero-mA : (to : Rounding) (e : ℤ) (scale : ℕ) → ifAllowed (wholeOf to (0 * up e * scale) (down e)) ≡ Refused
 zero-mA to e scale =
-    let none : 0 * up e * scale * 1 ≡ 0 * down e = mul-one (0 * up e * scale) ∙ ap (λ (n : ℕ). n * scale) (zero-mul (up e)) ∙ zero-mul scale ∙ sym (zero-mul (down e)) in
+    let none : 0 * up e * scale * 1 ≡ 0 * down e = mul-one (0 * up e * scale) ∙ ap (λ (n : ℕ). n * scale) (zero-mul (up e)) ∙ zero-mul scale ∙ sym
+    (zero-mul (down e)) in
     ap ifAllowed (whole-same to (0 * up e * scale) (down e) 0 1 (down-pos e) (pow-pos 0) none ∙ whole-of-one to 0)
 
 pub nan-refused : (to : Rounding) (x : Float) (scale : ℕ) → isNan x ≡ true → currentOf to x scale ≡ Refused

@@ -1,7 +1,8 @@
 -- Rounding a fraction to a whole number, over plain numbers: `wholeOf` is the least whole number at or above the fraction and the
--- greatest at or below it, since a quotient's remainder is below the divisor. So equal fractions round alike. Assumes nothing.
+-- greatest at or below it, since a quotient's remainder is below the divisor. So equal fractions round alike.
 use Prim.Native.Nat.{ℕ, zero, suc, _*_, _≤_, _<_}
-use native.Mathlib.Nat.{le-trans, le-of-eq, le-antisymm, zero-mul, suc-mul, mul-one, mul-right-comm, mul-le-mul-right, le-of-mul-le-mul-right, div-mul-le-self, div-eq-of-lt, le-div-iff-mul-le}
+use native.Mathlib.Nat.{le-trans, le-of-eq, le-antisymm, zero-mul, suc-mul, mul-one, mul-right-comm, mul-le-mul-right, le-of-mul-le-mul-right}
+use native.Mathlib.Nat.{div-mul-le-self, div-eq-of-lt, le-div-iff-mul-le}
 use native.Mathlib.Omega.{arith}
 use mathlib.Core.Path.{_≡_, sym}
 use lib.Dec.{lit<}

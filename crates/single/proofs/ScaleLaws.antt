@@ -1,5 +1,5 @@
 -- A mantissa below 2 ^ 24 times 2 ^ power times a scale, over 2 ^ 149, as a fraction of two numbers of 64 bits that rounds alike: powers of two
--- are cancelled, and what is left of the denominator is cut to 2 ^ 63, since the numerator is below that. Assumes nothing.
+-- are cancelled, and what is left of the denominator is cut to 2 ^ 63, since the numerator is below that.
 use Prim.Native.Nat.{ℕ, _+_, _-_, _*_, _^_, _≤_, _<_}
 use native.Mathlib.Nat.{mul-one, mul-assoc, mul-right-comm, mul-le-mul-left}
 use native.Mathlib.Omega.{arith}

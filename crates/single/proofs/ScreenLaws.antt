@@ -1,5 +1,5 @@
 -- The screening of a single by two comparisons, `0.0 <= x` and `x < 2 ^ 27`: where one fails, section 5 refuses the single, and where both hold,
--- it is finite, not negative and below 2 ^ 27, so that its mA are those of its size. By cases on the single. Assumes nothing.
+-- it is finite, not negative and below 2 ^ 27, so that its mA are those of its size. By cases on the single.
 use Prim.Native.Nat.{ℕ, zero, suc, _+_, _*_, _^_, _≤_, _<_, zero-le}
 use native.Mathlib.Nat.{le-of-eq, le-trans, zero-lt-suc, mul-le-mul-left, zero-mul, mul-one, mul-pos, mul-right-comm}
 use native.Mathlib.Omega.{arith}

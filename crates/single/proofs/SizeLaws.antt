@@ -1,8 +1,8 @@
 -- The size of a single below 2 ^ 27, from the fields of its bits: the fraction, under a leading one where the exponent is not 0, times
 -- a power of two that the exponent gives. The bits of a value that the format holds are read as that value again (`ofBits-toBits`).
--- Assumes nothing.
 use Prim.Native.Nat.{ℕ, zero, suc, _+_, _-_, _*_, _/_, _%_, _^_, _≤_, _<_}
-use native.Mathlib.Nat.{le-trans, le-of-eq, lt-of-le-of-lt, lt-of-lt-of-le, lt-of-not-le, lt-irrefl, le-add-right, mul-right-comm, mul-le-mul-right, mul-lt-mul-of-pos-right, lt-of-mul-lt-mul-right, mod-lt}
+use native.Mathlib.Nat.{le-trans, le-of-eq, lt-of-le-of-lt, lt-of-lt-of-le, lt-of-not-le, lt-irrefl, le-add-right, mul-right-comm, mul-le-mul-right}
+use native.Mathlib.Nat.{mul-lt-mul-of-pos-right, lt-of-mul-lt-mul-right, mod-lt}
 use native.Mathlib.Omega.{arith}
 use mathlib.Core.Path.{_≡_, refl, sym, ap, _∙_, subst}
 use mathlib.Core.Bool.{Bool, true, false, not, cond}
@@ -89,5 +89,7 @@ above s (suc j) t x is small h n =
       power-small = power-bound t j (size-below x ((2 ^ 23 + t) * 2 ^ j) (2 ^ 149) (pow-pos 149) h exact);
     })
 
-pub above-zero : (x : Float) → T (fits binary32 x) → Screened x → (exponent x ≡ 0 → ⊥) → SizeOf x (record { mantissa = 2 ^ 23 + fraction x; power = exponent x - 1 })
+pub above-zero :
+    (x : Float) → T (fits binary32 x) → Screened x → (exponent x ≡ 0 → ⊥) →
+    SizeOf x (record { mantissa = 2 ^ 23 + fraction x; power = exponent x - 1 })
 above-zero x f h n = above (leb (2 ^ 31) (toBits binary32 x)) (exponent x) (fraction x) x (read-back x f) (mod-lt (toBits binary32 x) (pow-pos 23)) h n

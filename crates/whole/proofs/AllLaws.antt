@@ -96,7 +96,9 @@ module _ (l c₀ s₀ c s : List ℕ) (i : ℕ) (v : Passing l c₀ s₀ c s i) 
       rw (e, add-one i)
       (ap (λ (s : Settled). onSettled i s (λ k. workOut l (upFrom (suc i) (rows l - suc i)) (putCardRow c i k))) (sym settles))
 
-  pub all-refused : (t : Tested) (a : Answer) (c′ s′ : List ℕ) → t ≡ Refused a → Stepped (step l i c s) t c′ s′ → calculation l c₀ ≡ workedAs (Refused a) c′
+  pub all-refused :
+      (t : Tested) (a : Answer) (c′ s′ : List ℕ) → t ≡ Refused a → Stepped (step l i c s) t c′ s′ → calculation l c₀ ≡ workedAs
+      (Refused a) c′
   unfolding step workedAs stepBy onSettled
   all-refused t a c′ s′ e z = goes-on ∙ by-cases (settledBy (rowAt l i) (fedAt s i)) (sym e ∙ z .answer)
     where
@@ -108,7 +110,9 @@ module _ (l c₀ s₀ c s : List ℕ) (i : ℕ) (v : Passing l c₀ s₀ c s i) 
   unfolding step stepBy onSettled
   all-next t c′ s′ p z = by-cases (settledBy (rowAt l i) (fedAt s i)) refl z
     where
-      by-cases : (o : Settled) → settledBy (rowAt l i) (fedAt s i) ≡ o → Stepped (stepBy (rowAt l i) i c s o) t c′ s′ → Passing l c₀ s₀ c′ s′ (i + 1)
+      by-cases :
+          (o : Settled) → settledBy (rowAt l i) (fedAt s i) ≡ o → Stepped (stepBy (rowAt l i) i c s o) t c′ s′ → Passing l c₀ s₀ c′
+          s′ (i + 1)
       by-cases (Set o) e z =
           rw (z .card, z .sums)
           (record {

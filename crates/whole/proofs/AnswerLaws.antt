@@ -35,7 +35,8 @@ module _ (l c : List ℕ) where
 
     module _ (t : Tested) (et : t ≡ rowsTest l) (ft : t ≡ Passed) where
       -- on a card of its own with room for every row, and sums that are 0
-      pub own-ready : (z y : List ℕ) → cardMost ≤ length z → rowsMost * askCount ≤ length y → ((x : ℕ) → getD y x 0 ≡ 0) → AllReady l (rows l) z y
+      pub own-ready :
+          (z y : List ℕ) → cardMost ≤ length z → rowsMost * askCount ≤ length y → ((x : ℕ) → getD y x 0 ≡ 0) → AllReady l (rows l) z y
       own-ready z y h k q =
           record {
             all-rows = refl;
@@ -55,7 +56,8 @@ module _ (l c : List ℕ) where
       pub room-for : columnCount * rows l ≤ length c
       room-for = size .card-room
 
-      calculates : (z : List ℕ) (w : Worked) → cardMost ≤ length z → calculation l z ≡ w → whole l c ≡ ending c (framed (rows l * columnCount) c w)
+      calculates :
+          (z : List ℕ) (w : Worked) → cardMost ≤ length z → calculation l z ≡ w → whole l c ≡ ending c (framed (rows l * columnCount) c w)
       unfolding whole after
       calculates z w h e =
           rw (sym es ∙ fs, sym et ∙ ft)
@@ -63,7 +65,9 @@ module _ (l c : List ℕ) where
           (calculation-frame l (passed-feeds l (sym et ∙ ft)) z c (omega (arith, size .most-rows)) (omega (arith, size .card-room)) ∙
           ap (framed (rows l * columnCount) c) e))
 
-      pub answered-refused : (z z′ : List ℕ) (w : Tested) (a : Answer) → cardMost ≤ length z → calculation l z ≡ workedAs w z′ → w ≡ Refused a → Answered (whole l c) a c
+      pub answered-refused :
+          (z z′ : List ℕ) (w : Tested) (a : Answer) → cardMost ≤ length z → calculation l z ≡ workedAs w z′ → w ≡ Refused a →
+          Answered (whole l c) a c
       unfolding ending framed workedAs
       answered-refused z z′ w a h e f =
           rw (calculates z (workedAs w z′) h e, f) (record { answer = refl; card = refl })

@@ -16,7 +16,7 @@ use native.Mathlib.Omega.{arith}
 use lib.ListN.{length, drop}
 use Rattle.grid.specs.declared.Found.{Found}
 use Rattle.grid.specs.declared.Found.the-variants.{At, Nothing}
-use Rattle.grid.proofs.BoolLaws.{passes-or-fails}
+use Rattle.grid.proofs.BoolLaws.{passes-or-fails, zero-not-one}
 use Rattle.grid.proofs.GridLaws.{Least, leastOn-least, leastOn-is}
 use Rattle.answers.specs.declared.Answer.{Answer}
 use Rattle.answers.specs.declared.Answer.the-variants.{Done, Unsettled}
@@ -51,13 +51,13 @@ use Rattle.whole.proofs.SettledLaws.{calculation-settled}
 
 -- no answer is two things at once, nor is a cutoff
 unsettled-not-done : {row : ℕ} {why : Reason} → Unsettled row why ≡ Done → ⊥
-unsettled-not-done e = let z : _≡_ {A = ℕ} 0 1 = cc in omega arith
+unsettled-not-done e = zero-not-one cc
 
 pickup-not-delay : {row row′ : ℕ} → Unsettled row Pickup ≡ Unsettled row′ Delay → ⊥
-pickup-not-delay e = let z : _≡_ {A = ℕ} 0 1 = cc in omega arith
+pickup-not-delay e = zero-not-one cc
 
 fitted-not : {C : ℕ} → Fitted C ≡ NotFitted → ⊥
-fitted-not e = let z : _≡_ {A = ℕ} 0 1 = cc in omega arith
+fitted-not e = zero-not-one cc
 
 module _ (l c : List ℕ) (size : sizeTest (length l) (length c) ≡ Passed) (a : InRange l) (b : Feeds l) where
   v : View
@@ -195,7 +195,9 @@ pub cutoff-fitted-exactly :
 unfolding cutoffOf fitting
 cutoff-fitted-exactly r k C = (λ e. to (leastPickup r (staysClear r)) refl e, λ h. rw (leastOn-is _ _ _ k (staysClear r) C (h .0), h .1))
   where
-    to : (f : Found) → leastPickup r (staysClear r) ≡ f → fitting r f ≡ Fitted C → Least (r .low) (r .high) (r .step) k (staysClear r) C × (seesNear r C ≡ true)
+    to :
+        (f : Found) → leastPickup r (staysClear r) ≡ f → fitting r f ≡ Fitted C → Least (r .low) (r .high) (r .step) k (staysClear r) C ×
+        (seesNear r C ≡ true)
     to (At x) g e =
         ⊎-elim
         (λ (t : seesNear r x ≡ true).
@@ -209,7 +211,9 @@ cutoff-fitted-exactly r k C = (λ e. to (leastPickup r (staysClear r)) refl e, �
     to Nothing g e = absurd (fitted-not (sym e))
 
 -- whatever is refused, the lent card is as it was lent
-kept-by : (c : List ℕ) (t u : Tested) (w : Worked) → (after t c (after u c (ending c w)) .answer ≡ Done → ⊥) → after t c (after u c (ending c w)) .card ≡ c
+kept-by :
+    (c : List ℕ) (t u : Tested) (w : Worked) → (after t c (after u c (ending c w)) .answer ≡ Done → ⊥) → after t c
+    (after u c (ending c w)) .card ≡ c
 unfolding after ending
 kept-by c (Refused x) u w n = refl
 kept-by c Passed (Refused x) w n = refl

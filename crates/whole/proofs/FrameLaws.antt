@@ -22,7 +22,6 @@ use Rattle.work.specs.WorkOut.{Worked, finished, refused, onSettled, workOut, u
 use Rattle.work.proofs.EndLaws.{never-finished}
 use Rattle.whole.specs.Whole.{calculation}
 
-
 -- two cards whose rows below i are equal
 unfoldable pub Agree : ℕ → List ℕ → List ℕ → Type 0
 Agree i c c′ = (j : ℕ) → j < i → cardRowAt c j ≡ cardRowAt c′ j
@@ -77,7 +76,8 @@ module _ (l : List ℕ) (b : Feeds l) where
           onSettled i s (rest c′) ≡ framed (rows l * columnCount) c′ (onSettled i s (rest c))
       by-cases (Set o) ih =
           ih (shown o) ∙
-          framed-drop (rows l * columnCount) (putCardRow c′ i (shown o)) c′ (rest c (shown o)) (putCardRow-drop c′ i (shown o) (rows l * columnCount) (omega arith))
+          framed-drop (rows l * columnCount) (putCardRow c′ i (shown o)) c′ (rest c (shown o))
+          (putCardRow-drop c′ i (shown o) (rows l * columnCount) (omega arith))
       by-cases (Unset why) ih = refl
 
   -- the calculation on one card gives that on any other

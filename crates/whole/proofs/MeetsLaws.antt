@@ -75,7 +75,8 @@ module _ (v : View) (k : Settings) (i t : ℕ) where
   meets-delay m = and-both (m .D1) (each-fed-of v i (λ j. gradedAbove (v .row j) (k j) t) (m .D2))
 
 -- a lower pickup or a shorter delay below asks no more
-pub clearOf-down : (v : View) (k k′ : Settings) (i j I : ℕ) → k j .pickup ≤ k′ j .pickup → clearOf v k′ i j I ≡ true → clearOf v k i j I ≡ true
+pub clearOf-down :
+    (v : View) (k k′ : Settings) (i j I : ℕ) → k j .pickup ≤ k′ j .pickup → clearOf v k′ i j I ≡ true → clearOf v k i j I ≡ true
 unfolding clearOf
 clearOf-down v k k′ i j I h t =
     let m = mul-le-mul-right (v .row j .volts) h in

@@ -74,13 +74,15 @@ module _ (l : List ℕ) (b : Feeds l) where
       (next-settled i c o (omega arith) k s all)) j h
     where
       by-cases :
-          (s : Settled) → settled (viewOf l) (cardRowAt c) i ≡ s → onSettled i s (λ k. workOut l (upFrom (suc i) m) (putCardRow c i k)) ≡ finished c′ →
+          (s : Settled) → settled (viewOf l) (cardRowAt c) i ≡ s → onSettled i s (λ k. workOut l (upFrom (suc i) m) (putCardRow c i k)) ≡
+          finished c′ →
           ((o : Outcome) → settled (viewOf l) (cardRowAt c) i ≡ Set o → workOut l (upFrom (suc i) m) (putCardRow c i (shown o)) ≡ finished c′ →
           (j : ℕ) → j < rows l → Settles l c′ j) →
           (j : ℕ) → j < rows l → Settles l c′ j
       by-cases (Set o) s e ih = ih o s e
       by-cases (Unset why) s e ih = absurd (never-finished e)
 
-  pub calculation-settled : (c c′ : List ℕ) → rows l * columnCount ≤ length c → calculation l c ≡ finished c′ → (j : ℕ) → j < rows l → Settles l c′ j
+  pub calculation-settled :
+      (c c′ : List ℕ) → rows l * columnCount ≤ length c → calculation l c ≡ finished c′ → (j : ℕ) → j < rows l → Settles l c′ j
   unfolding calculation
   calculation-settled c c′ k e = settled-from (rows l) 0 c c′ (zero-add (rows l)) k (λ j g. absurd (omega arith)) e

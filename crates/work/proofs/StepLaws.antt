@@ -53,7 +53,8 @@ module _ (l : List ℕ) (i : ℕ) (c s : List ℕ) (r : Row) (f : Fed) (er : r �
   step-unsettled why e = rw (settles (Unset why) e) (record { answer = refl; card = refl; sums = refl })
 
   pub step-set :
-      (o : Outcome) (k : CardRow) (c′ s′ : List ℕ) → Set o ≡ settledBy r f → k ≡ shown o → c′ ≡ putCardRow c i k → s′ ≡ pushed r k s →
+      (o : Outcome) (k : CardRow) (c′ s′ : List ℕ) → Set o ≡ settledBy r f → k ≡ shown o → c′ ≡ putCardRow c i k → s′ ≡
+      pushed r k s →
       Stepped (step l i c s) Passed c′ s′
   unfolding stepBy
   step-set o k c′ s′ e ek ec es =

@@ -1,4 +1,4 @@
--- `answer` is the replacement that section 4 says: sizes, EDIT, then the exchange of the row, each test ending it as it should. Assumes nothing.
+-- `answer` is the replacement that section 4 says: sizes, EDIT, then the exchange of the row, each test ending it as it should.
 use mathlib.Core.Path.{sym, _∙_}
 use borrow.Author.Needs.{needs}
 use Rattle.edit.proofs.TestLaws.{edit-passed}
@@ -28,7 +28,13 @@ same-length : tie.Need-same-length
 same-length c = search needs
 
 returns-2 : tie.Need-returns-2
-returns-2 c = answer-edit _ _ _ _ _ (c .before .before .before .before .before .before .before .test-size .ensures) (c .before .before .before .before .before .enum-told .given .1) _ (c .before .before .before .test-edit .ensures) _ (c .before .edit .given .1)
+returns-2 c =
+    let at-edit = c .before in
+    let at-test-edit = at-edit .before .before in
+    let at-enum-told = at-test-edit .before .before in
+    let at-test-size = at-enum-told .before .before in
+    answer-edit _ _ _ _ _ (at-test-size .test-size .ensures) (at-enum-told .enum-told .given .1) _ (at-test-edit .test-edit .ensures) _
+    (at-edit .edit .given .1)
 
 enum-told-2 : tie.Need-enum-told-2
 enum-told-2 c = search needs
@@ -37,7 +43,13 @@ sub-exchange : tie.Need-sub-exchange
 sub-exchange c = edit-passed _ _ _ (sym (c .before .before .before .before .test-edit .ensures) ∙ c .before .before .enum-told2 .given .1) .from
 
 exchange-requires : tie.Need-exchange-requires
-exchange-requires c κs = answer-ready _ _ _ _ _ (c .before .before .before .before .before .before .before .before .test-size .ensures) (c .before .before .before .before .before .before .enum-told .given .1) _ (c .before .before .before .before .test-edit .ensures) (c .before .before .enum-told2 .given .1)
+exchange-requires c κs =
+    let at-enum-told2 = c .before .before in
+    let at-test-edit = at-enum-told2 .before .before in
+    let at-enum-told = at-test-edit .before .before in
+    let at-test-size = at-enum-told .before .before in
+    answer-ready _ _ _ _ _ (at-test-size .test-size .ensures) (at-enum-told .enum-told .given .1) _ (at-test-edit .test-edit .ensures)
+    (at-enum-told2 .enum-told2 .given .1)
 
 same-length-2 : tie.Need-same-length-2
 same-length-2 c = search needs
@@ -47,7 +59,13 @@ same-length-3 c = search needs
 
 returns-3 : tie.Need-returns-3
 returns-3 c =
-    answer-exchanged _ _ _ _ _ (c .before .before .before .before .before .before .before .before .before .before .before .before .before .test-size .ensures) (c .before .before .before .before .before .before .before .before .before .before .before .enum-told .given .1) _ (c .before .before .before .before .before .before .before .before .before .test-edit .ensures) (c .before .before .before .before .before .before .before .enum-told2 .given .1) _ _ _ (c .before .before .before .before .exchange .ensures)
+    let at-exchange = c .before .before .before .before in
+    let at-enum-told2 = at-exchange .before .before .before in
+    let at-test-edit = at-enum-told2 .before .before in
+    let at-enum-told = at-test-edit .before .before in
+    let at-test-size = at-enum-told .before .before in
+    answer-exchanged _ _ _ _ _ (at-test-size .test-size .ensures) (at-enum-told .enum-told .given .1) _ (at-test-edit .test-edit .ensures)
+    (at-enum-told2 .enum-told2 .given .1) _ _ _ (at-exchange .exchange .ensures)
 
 pub answer-spec : {M : Type 1} → statement M
 answer-spec =

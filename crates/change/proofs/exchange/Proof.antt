@@ -1,4 +1,4 @@
--- `exchange` puts the new row in and works its path out; on a refusal the row that it kept aside goes back. Assumes nothing.
+-- `exchange` puts the new row in and works its path out; on a refusal the row that it kept aside goes back.
 use mathlib.Core.Path.{refl}
 use native.Mathlib.Omega.{arith}
 use lib.ListN.{replicate}
@@ -55,9 +55,16 @@ same-length-2 c = search needs
 
 returns : tie.Need-returns
 returns c =
-    let a = c .before .before .before .before .before .before .before .before .before .before .before .before .before .before .before .before .before .before .before .before .before .before .before .before .before .pre in
-    exchange-refused _ _ _ _ _ (c .before .before .before .before .before .before .before .before .before .before .before .before .before .before .before .put-list2 .ensures) _ _ (c .before .before .before .before .before .before .before .before .before .before .rework .ensures) _ (replicate fieldCount 0) _ _ (c .before .before .before .before .before .before .tested .given .1)
-    (record { in-list = omega (arith, a .rework .is-row); row-length = a .row-length }) refl (c .before .before .before .before .before .before .before .before .before .before .before .before .before .before .before .before .before .before .put-list .ensures) (c .before .before .put-list3 .ensures)
+    let at-put-list3 = c .before .before in
+    let at-tested = at-put-list3 .before .before .before .before in
+    let at-rework = at-tested .before .before .before .before in
+    let at-put-list2 = at-rework .before .before .before .before .before in
+    let at-put-list = at-put-list2 .before .before .before in
+    let at-23 = at-put-list .before .before .before .before .before in
+    let start = at-23 .before .before in
+    let a = start .pre in
+    exchange-refused _ _ _ _ _ (at-put-list2 .put-list2 .ensures) _ _ (at-rework .rework .ensures) _ (replicate fieldCount 0) _ _ (at-tested .tested .given .1)
+    (record { in-list = omega (arith, a .rework .is-row); row-length = a .row-length }) refl (at-put-list .put-list .ensures) (at-put-list3 .put-list3 .ensures)
 
 enum-told : tie.Need-enum-told
 enum-told c = search needs
@@ -69,7 +76,10 @@ same-length-4 : tie.Need-same-length-4
 same-length-4 c = search needs
 
 returns-2 : tie.Need-returns-2
-returns-2 c = exchange-done _ _ _ _ _ (c .before .before .before .before .before .before .before .before .before .put-list2 .ensures) _ _ (c .before .before .before .before .rework .ensures) (c .enum-told .given .1)
+returns-2 c =
+    let at-rework = c .before .before .before .before in
+    let at-put-list2 = at-rework .before .before .before .before .before in
+    exchange-done _ _ _ _ _ (at-put-list2 .put-list2 .ensures) _ _ (at-rework .rework .ensures) (c .enum-told .given .1)
 
 pub exchange-spec : {M : Type 1} → statement M
 exchange-spec =

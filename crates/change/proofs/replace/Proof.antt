@@ -1,4 +1,4 @@
--- `replace` gives the answer of `answer` in section 4's numbers. Assumes nothing.
+-- `replace` gives the answer of `answer` in section 4's numbers.
 use borrow.Author.Needs.{needs}
 use Rattle.change.proofs.EntryLaws.{gave}
 use Rattle.change.proofs.replace.Statement.{statement}

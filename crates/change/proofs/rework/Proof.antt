@@ -1,4 +1,4 @@
--- `rework` tests list and card and works the path out, each test ending it as it should. Assumes nothing.
+-- `rework` tests list and card and works the path out, each test ending it as it should.
 use borrow.Author.Needs.{needs}
 use Rattle.change.proofs.EntryLaws.{rework-rows, rework-card, rework-ready, rework-path}
 use Rattle.change.proofs.rework.Statement.{statement}
@@ -26,20 +26,39 @@ same-length : tie.Need-same-length
 same-length c = search needs
 
 returns-2 : tie.Need-returns-2
-returns-2 c = rework-card _ _ _ _ (c .before .before .before .before .before .before .before .test-rows .ensures) (c .before .before .before .before .before .enum-told .given .1) _ (c .before .before .before .test-card .ensures) _ (c .before .found .given .1)
+returns-2 c =
+    let at-found = c .before in
+    let at-test-card = at-found .before .before in
+    let at-enum-told = at-test-card .before .before in
+    let at-test-rows = at-enum-told .before .before in
+    rework-card _ _ _ _ (at-test-rows .test-rows .ensures) (at-enum-told .enum-told .given .1) _ (at-test-card .test-card .ensures) _
+    (at-found .found .given .1)
 
 enum-told-2 : tie.Need-enum-told-2
 enum-told-2 c = search needs
 
 work-path-requires : tie.Need-work-path-requires
-work-path-requires c κs = rework-ready _ _ _ _ (c .before .before .before .before .before .before .before .test-rows .ensures) (c .before .before .before .before .before .enum-told .given .1) _ (c .before .before .before .test-card .ensures) (c .before .enum-told2 .given .1) (c .before .before .before .before .before .before .before .before .before .before .pre)
+work-path-requires c κs =
+    let at-enum-told2 = c .before in
+    let at-test-card = at-enum-told2 .before .before in
+    let at-enum-told = at-test-card .before .before in
+    let at-test-rows = at-enum-told .before .before in
+    let start = at-test-rows .before .before .before in
+    rework-ready _ _ _ _ (at-test-rows .test-rows .ensures) (at-enum-told .enum-told .given .1) _ (at-test-card .test-card .ensures)
+    (at-enum-told2 .enum-told2 .given .1) (start .pre)
 
 same-length-2 : tie.Need-same-length-2
 same-length-2 c = search needs
 
 returns-3 : tie.Need-returns-3
 returns-3 c =
-    rework-path _ _ _ _ (c .before .before .before .before .before .before .before .before .before .before .test-rows .ensures) (c .before .before .before .before .before .before .before .before .enum-told .given .1) _ (c .before .before .before .before .before .before .test-card .ensures) (c .before .before .before .before .enum-told2 .given .1) _ _ (c .before .before .work-path .ensures)
+    let at-work-path = c .before .before in
+    let at-enum-told2 = at-work-path .before .before in
+    let at-test-card = at-enum-told2 .before .before in
+    let at-enum-told = at-test-card .before .before in
+    let at-test-rows = at-enum-told .before .before in
+    rework-path _ _ _ _ (at-test-rows .test-rows .ensures) (at-enum-told .enum-told .given .1) _ (at-test-card .test-card .ensures)
+    (at-enum-told2 .enum-told2 .given .1) _ _ (at-work-path .work-path .ensures)
 
 pub rework-spec : {M : Type 1} → statement M
 rework-spec =

@@ -1,4 +1,4 @@
--- `edit::put_list` meets its contract: the row is copied into its place. Assumes nothing.
+-- `edit::put_list` meets its contract: the row is copied into its place.
 use borrow.Author.Needs.{needs}
 use mathlib.Core.Path.{_∙_}
 use Rattle.edit.proofs.PutLaws.{put-pasted}
@@ -15,7 +15,10 @@ same-length : tie.Need-same-length
 same-length c = search needs
 
 returns : tie.Need-returns
-returns c = c .before .before .put .ensures ∙ put-pasted _ _ _ (c .before .before .before .before .before .before .pre)
+returns c =
+    let at-put = c .before .before in
+    let start = at-put .before .before .before .before in
+    at-put .put .ensures ∙ put-pasted _ _ _ (start .pre)
 
 pub put-list-spec : {M : Type 1} → statement M
 put-list-spec = tie.close (tie.spec mul-put put-requires same-length returns)

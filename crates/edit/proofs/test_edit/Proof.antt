@@ -1,4 +1,4 @@
--- `test_edit` lets a place and a row pass exactly as EDIT says: each return has the test that failed. Assumes nothing.
+-- `test_edit` lets a place and a row pass exactly as EDIT says: each return has the test that failed.
 use mathlib.Core.Path.{sym, _∙_}
 use native.Mathlib.Omega.{arith}
 use borrow.Author.Needs.{needs}
@@ -32,13 +32,16 @@ returns-5 c = edit-refuses _ _ _ (λ f. c .if5 .taken (f .same-feeder ∙ sym (c
 
 returns-6 : tie.Need-returns-6
 returns-6 c =
+    let at-field-at = c .before in
+    let at-if2 = at-field-at .before .before .before .before .before in
+    let at-if1 = at-if2 .before in
     edit-passes _ _ _
     (record {
-      from = c .before .before .before .before .before .before .before .if1 .left;
-      to = c .before .before .before .before .before .before .if2 .left;
+      from = at-if1 .if1 .left;
+      to = at-if2 .if2 .left;
       row-length = omega arith;
       own-number = omega arith;
-      same-feeder = omega (arith, c .before .field-at .ensures);
+      same-feeder = omega (arith, at-field-at .field-at .ensures);
     })
 
 pub test-edit-spec : {M : Type 1} → statement M

@@ -1,5 +1,4 @@
 -- `grid::ceil_div` meets its contract: the quotient where nothing is left over, and one more otherwise, is the quotient rounded up.
--- Assumes nothing.
 use native.Mathlib.Omega.{arith}
 use borrow.Author.Needs.{needs}
 use native.Mathlib.Nat.{pos-of-ne-zero}

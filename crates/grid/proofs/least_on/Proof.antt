@@ -1,5 +1,4 @@
 -- `grid::least_on` meets its contract: from the greater of low and the bound, the next value of the grid.
--- Assumes nothing.
 use native.Mathlib.Omega.{arith}
 use borrow.Author.Needs.{needs}
 use mathlib.Core.Path.{sym}
@@ -42,7 +41,8 @@ returns-4 : tie.Need-returns-4
 returns-4 c =
     let p = pos-of-ne-zero (c .before .before .before .before .before .if1 .left) in
     let q = c .before .before .before .before .greater .ensures in
-    let n = ⊎-elim (λ w. next-here _ _ _ _ _ p q _ (w .0 .taken) (w .1)) (λ w. next-past _ _ _ _ _ p q _ (w .0 .left) (w .1)) (c .before .before .if3 .came) in
+    let n = ⊎-elim (λ w. next-here _ _ _ _ _ p q _ (w .0 .taken) (w .1)) (λ w. next-past _ _ _ _ _ p q _ (w .0 .left) (w .1))
+    (c .before .before .if3 .came) in
     sym (leastOn-next _ _ _ _ _ p q _ n (omega arith))
 
 pub least-on-spec : {M : Type 1} → statement M

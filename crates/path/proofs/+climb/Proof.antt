@@ -46,7 +46,9 @@ climb-card-row-at-requires t c κs =
 
 climb-work-row-requires : (t : ℕ) → climb-lts.Need-work-row-requires (callees t) (climb-at t) climb.Post
 climb-work-row-requires t c κs =
-    climb-works _ _ _ _ (c .before .before .before .before .before .before .before .pre .1)
+    let at-5 = c .before .before .before .before .before in
+    let start = at-5 .before .before in
+    climb-works _ _ _ _ (start .pre .1)
 
 climb-enum-known-own : (t : ℕ) → climb-lts.Need-enum-known-own (callees t) (climb-at t) climb.Post
 climb-enum-known-own t c = search needs
@@ -59,14 +61,22 @@ climb-same-length-2 t c = search needs
 
 climb-returns : (t : ℕ) → climb-lts.Need-returns (callees t) (climb-at t) climb.Post
 climb-returns t c =
-    climb-refused _ _ _ _ (c .before .before .before .before .before .before .before .before .before .before .before .before .before .before .before .pre .1) _ _ _ (c .before .before .before .before .before .before .before .work-row .ensures) _ (c .before .own .given .1)
+    let at-own = c .before in
+    let at-6 = at-own .before .before .before .before .before in
+    let at-work-row = at-6 .before in
+    let at-12 = at-work-row .before .before .before .before .before in
+    let start = at-12 .before .before .before in
+    climb-refused _ _ _ _ (start .pre .1) _ _ _ (at-work-row .work-row .ensures) _ (at-own .own .given .1)
 
 climb-enum-told : (t : ℕ) → climb-lts.Need-enum-told (callees t) (climb-at t) climb.Post
 climb-enum-told t c = search needs
 
 climb-field-at-requires : (t : ℕ) → climb-lts.Need-field-at-requires (callees t) (climb-at t) climb.Post
 climb-field-at-requires t c κs =
-    let k = climb-works _ _ _ _ (c .before .before .before .before .before .before .before .before .before .before .before .before .before .before .pre .1) in omega (arith, k .in-list)
+    let at-5 = c .before .before .before .before .before in
+    let at-10 = at-5 .before .before .before .before .before in
+    let start = at-10 .before .before .before .before in
+    let k = climb-works _ _ _ _ (start .pre .1) in omega (arith, k .in-list)
 
 climb-same-length-3 : (t : ℕ) → climb-lts.Need-same-length-3 (callees t) (climb-at t) climb.Post
 climb-same-length-3 t c = search needs
@@ -76,25 +86,48 @@ climb-same-length-4 t c = search needs
 
 climb-returns-2 : (t : ℕ) → climb-lts.Need-returns-2 (callees t) (climb-at t) climb.Post
 climb-returns-2 t c =
-    climb-source _ _ _ _ (c .before .before .before .before .before .before .before .before .before .before .before .before .before .before .before .before .pre .1) _ _ _ (c .before .before .before .before .before .before .before .before .work-row .ensures) (c .before .before .enum-told .given .1) _ (c .before .field-at .ensures) (c .if1 .taken)
+    let at-field-at = c .before in
+    let at-enum-told = at-field-at .before in
+    let at-7 = at-enum-told .before .before .before .before .before in
+    let at-work-row = at-7 .before in
+    let at-13 = at-work-row .before .before .before .before .before in
+    let start = at-13 .before .before .before in
+    climb-source _ _ _ _ (start .pre .1) _ _ _ (at-work-row .work-row .ensures) (at-enum-told .enum-told .given .1) _ (at-field-at .field-at .ensures)
+    (c .if1 .taken)
 
 climb-sub-climb : (t : ℕ) → climb-lts.Need-sub-climb (callees t) (climb-at t) climb.Post
 climb-sub-climb t c =
     search needs
 
 climb-climb-requires : (t : ℕ) → climb-lts.Need-climb-requires (callees t) (climb-at t) climb.Post
-climb-climb-requires t c κs = (
-  subst (λ (n : ℕ). rows (c .before .before .before .before .before .before .before .before .before .before .before .before .before .before .before .before .before .before .args .list .now) - (c .before .before .before .field-at .result - 1) < n) (c .before .before .before .before .before .before .before .before .before .before .before .before .before .before .before .before .before .before .pre .0)
-      (climb-less _ _ _ _ (c .before .before .before .before .before .before .before .before .before .before .before .before .before .before .before .before .before .before .pre .1) _ _ _ (c .before .before .before .before .before .before .before .before .before .before .work-row .ensures) (c .before .before .before .before .enum-told .given .1) _ (c .before .before .before .field-at .ensures) (c .before .before .if1 .left)),
-  climb-on _ _ _ _ (c .before .before .before .before .before .before .before .before .before .before .before .before .before .before .before .before .before .before .pre .1) _ _ _ (c .before .before .before .before .before .before .before .before .before .before .work-row .ensures) (c .before .before .before .before .enum-told .given .1) _ (c .before .before .before .field-at .ensures) (c .before .before .if1 .left),
-)
+climb-climb-requires t c κs =
+    let at-if1 = c .before .before in
+    let at-field-at = at-if1 .before in
+    let at-enum-told = at-field-at .before in
+    let at-9 = at-enum-told .before .before .before .before .before in
+    let at-work-row = at-9 .before in
+    let at-15 = at-work-row .before .before .before .before .before in
+    let start = at-15 .before .before .before in (
+      subst (λ (n : ℕ). rows (start .args .list .now) - (at-field-at .field-at .result - 1) < n) (start .pre .0)
+          (climb-less _ _ _ _ (start .pre .1) _ _ _ (at-work-row .work-row .ensures) (at-enum-told .enum-told .given .1) _ (at-field-at .field-at .ensures)
+          (at-if1 .if1 .left)),
+      climb-on _ _ _ _ (start .pre .1) _ _ _ (at-work-row .work-row .ensures) (at-enum-told .enum-told .given .1) _ (at-field-at .field-at .ensures)
+          (at-if1 .if1 .left),
+    )
 
 climb-enum-known-rest : (t : ℕ) → climb-lts.Need-enum-known-rest (callees t) (climb-at t) climb.Post
 climb-enum-known-rest t c = search needs
 
 climb-put-card-row-requires : (t : ℕ) → climb-lts.Need-put-card-row-requires (callees t) (climb-at t) climb.Post
 climb-put-card-row-requires t c κs =
-    let k = climb-works _ _ _ _ (c .before .before .before .before .before .before .before .before .before .before .before .before .before .before .before .before .before .before .before .before .before .before .before .before .before .before .before .pre .1) in omega (arith, k .in-card, c .before .before .before .before .before .before .before .before .before .before .before .before .before .before .before .before .before .before .before .work-row .kept .1 .1 .0, c .before .before .before .before .before .before .before .before .climb .kept .1 .1 .0)
+    let at-5 = c .before .before .before .before .before in
+    let at-climb = at-5 .before .before .before in
+    let at-13 = at-climb .before .before .before .before .before in
+    let at-18 = at-13 .before .before .before .before .before in
+    let at-work-row = at-18 .before in
+    let at-24 = at-work-row .before .before .before .before .before in
+    let start = at-24 .before .before .before in
+    let k = climb-works _ _ _ _ (start .pre .1) in omega (arith, k .in-card, at-work-row .work-row .kept .1 .1 .0, at-climb .climb .kept .1 .1 .0)
 
 climb-same-length-5 : (t : ℕ) → climb-lts.Need-same-length-5 (callees t) (climb-at t) climb.Post
 climb-same-length-5 t c = search needs
@@ -104,8 +137,20 @@ climb-same-length-6 t c = search needs
 
 climb-returns-3 : (t : ℕ) → climb-lts.Need-returns-3 (callees t) (climb-at t) climb.Post
 climb-returns-3 t c =
-    climb-back _ _ _ _ (c .before .before .before .before .before .before .before .before .before .before .before .before .before .before .before .before .before .before .before .before .before .before .before .before .before .before .before .before .before .before .pre .1) _ _ _ (c .before .before .before .before .before .before .before .before .before .before .before .before .before .before .before .before .before .before .before .before .before .before .work-row .ensures) (c .before .before .before .before .before .before .before .before .before .before .before .before .before .before .before .before .enum-told .given .1) _ (c .before .before .before .before .before .before .before .before .before .before .before .before .before .before .before .field-at .ensures) (c .before .before .before .before .before .before .before .before .before .before .before .before .before .before .if1 .left)
-    _ _ _ _ _ (c .before .before .before .before .before .before .before .before .before .before .before .climb .ensures) (c .before .before .before .before .before .rest .given .1) (c .before .before .before .before .before .before .before .before .before .before .before .before .before .before .before .before .before .before .before .before .before .before .before .before .before .card-row-at .ensures) (c .before .before .put-card-row .ensures)
+    let at-put-card-row = c .before .before in
+    let at-rest = at-put-card-row .before .before .before in
+    let at-10 = at-rest .before .before .before .before .before in
+    let at-climb = at-10 .before in
+    let at-if1 = at-climb .before .before .before in
+    let at-field-at = at-if1 .before in
+    let at-enum-told = at-field-at .before in
+    let at-21 = at-enum-told .before .before .before .before .before in
+    let at-work-row = at-21 .before in
+    let at-card-row-at = at-work-row .before .before .before in
+    let start = at-card-row-at .before .before .before .before .before in
+    climb-back _ _ _ _ (start .pre .1) _ _ _ (at-work-row .work-row .ensures) (at-enum-told .enum-told .given .1) _ (at-field-at .field-at .ensures)
+    (at-if1 .if1 .left)
+    _ _ _ _ _ (at-climb .climb .ensures) (at-rest .rest .given .1) (at-card-row-at .card-row-at .ensures) (at-put-card-row .put-card-row .ensures)
 
 climb-enum-told-2 : (t : ℕ) → climb-lts.Need-enum-told-2 (callees t) (climb-at t) climb.Post
 climb-enum-told-2 t c = search needs
@@ -118,8 +163,18 @@ climb-same-length-8 t c = search needs
 
 climb-returns-4 : (t : ℕ) → climb-lts.Need-returns-4 (callees t) (climb-at t) climb.Post
 climb-returns-4 t c =
-    climb-done _ _ _ _ (c .before .before .before .before .before .before .before .before .before .before .before .before .before .before .before .before .before .before .before .before .before .before .before .before .before .pre .1) _ _ _ (c .before .before .before .before .before .before .before .before .before .before .before .before .before .before .before .before .before .work-row .ensures) (c .before .before .before .before .before .before .before .before .before .before .before .enum-told .given .1) _ (c .before .before .before .before .before .before .before .before .before .before .field-at .ensures) (c .before .before .before .before .before .before .before .before .before .if1 .left)
-    _ _ (c .before .before .before .before .before .before .climb .ensures) (c .enum-told2 .given .1)
+    let at-5 = c .before .before .before .before .before in
+    let at-climb = at-5 .before in
+    let at-if1 = at-climb .before .before .before in
+    let at-field-at = at-if1 .before in
+    let at-enum-told = at-field-at .before in
+    let at-16 = at-enum-told .before .before .before .before .before in
+    let at-work-row = at-16 .before in
+    let at-22 = at-work-row .before .before .before .before .before in
+    let start = at-22 .before .before .before in
+    climb-done _ _ _ _ (start .pre .1) _ _ _ (at-work-row .work-row .ensures) (at-enum-told .enum-told .given .1) _ (at-field-at .field-at .ensures)
+    (at-if1 .if1 .left)
+    _ _ (at-climb .climb .ensures) (c .enum-told2 .given .1)
 
 pub +climb-spec : {M : Type 1} → statement M
 +climb-spec = close μ-climb λ t. climb-lts.spec (callees t)

@@ -28,7 +28,10 @@ card-right-requires : tie.Need-card-right-requires Inv-loop μ-loop
 card-right-requires c κs = (omega arith, c .before .before .before .column-bounds .ensures)
 
 returns : tie.Need-returns Inv-loop μ-loop
-returns c = sym (passed-found _ (c .before .before .before .before .loop .inv) (c .before .before .before .loop-test .taken) (sym (ap not (c .before .card-right .ensures)) ∙ c .if1 .taken))
+returns c =
+    sym
+    (passed-found _ (c .before .before .before .before .loop .inv) (c .before .before .before .loop-test .taken)
+    (sym (ap not (c .before .card-right .ensures)) ∙ c .if1 .taken))
 
 add-j : tie.Need-add-j Inv-loop μ-loop
 add-j c = omega arith
@@ -37,7 +40,9 @@ loop-less : tie.Need-loop-less Inv-loop μ-loop
 loop-less c = omega arith
 
 loop-again : tie.Need-loop-again Inv-loop μ-loop
-loop-again c = passed-more _ (c .before .before .before .before .loop .inv) (c .before .before .before .loop-test .taken) (sym (ap not (c .before .card-right .ensures)) ∙ c .if1 .left)
+loop-again c =
+    passed-more _ (c .before .before .before .before .loop .inv) (c .before .before .before .loop-test .taken)
+    (sym (ap not (c .before .card-right .ensures)) ∙ c .if1 .left)
 
 returns-2 : tie.Need-returns-2 Inv-loop μ-loop
 returns-2 c = sym (passed-all _ (c .before .loop .inv) (c .loop-test .left))

@@ -21,7 +21,11 @@ above-requires c κs = c .before .loop-test .taken
 
 push-found-requires : tie.Need-push-found-requires Inv-loop μ-loop
 push-found-requires c κs =
-    rest-ready _ _ _ _ (c .before .before .before .before .before .before .before .pre) _ _ _ (c .before .before .before .loop .inv) (c .before .before .loop-test .taken) (c .before .if1 .left)
+    let at-if1 = c .before in
+    let at-loop-test = at-if1 .before in
+    let at-loop = at-loop-test .before in
+    let start = at-loop .before .before .before .before in
+    rest-ready _ _ _ _ (start .pre) _ _ _ (at-loop .loop .inv) (at-loop-test .loop-test .taken) (at-if1 .if1 .left)
 
 add-j : tie.Need-add-j Inv-loop μ-loop
 add-j c = omega arith
@@ -31,9 +35,12 @@ loop-less c = omega arith
 
 loop-again : tie.Need-loop-again Inv-loop μ-loop
 loop-again c =
-    let a = c .before .before .before .before .before .before .pre in
-    let v = c .before .before .loop .inv in
-    let h = c .before .loop-test .taken in
+    let at-loop-test = c .before in
+    let at-loop = at-loop-test .before in
+    let start = at-loop .before .before .before .before in
+    let a = start .pre in
+    let v = at-loop .loop .inv in
+    let h = at-loop-test .loop-test .taken in
     ⊎-elim
     (λ w. rest-skip _ _ _ _ a _ _ _ v h _ _ (w .0 .taken) (w .2) (w .3 ∙ w .1 .ensures))
     (λ w. rest-push _ _ _ _ a _ _ _ v h (w .0 .left) _ _ (w .5 ∙ w .2 .ensures) (w .6))

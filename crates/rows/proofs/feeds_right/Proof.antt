@@ -1,5 +1,4 @@
 -- `rows::feeds_right` meets its contract: each return is a way in which a row's feeder is judged.
--- Assumes nothing.
 use borrow.Author.Needs.{needs}
 use Rattle.rows.proofs.TestLaws.{feeds-last, feeds-below, feeds-above, feeds-by}
 use Rattle.rows.proofs.feeds_right.Statement.{statement}
@@ -30,7 +29,9 @@ field-at-requires-2 : tie.Need-field-at-requires-2
 field-at-requires-2 c κs = search needs
 
 returns-4 : tie.Need-returns-4
-returns-4 c = feeds-by _ _ _ (c .before .before .before .before .field-at .ensures) _ (c .field-at2 .ensures) (c .before .before .before .if1 .left) (c .before .before .if2 .left) (c .before .if3 .left)
+returns-4 c =
+    feeds-by _ _ _ (c .before .before .before .before .field-at .ensures) _ (c .field-at2 .ensures) (c .before .before .before .if1 .left)
+    (c .before .before .if2 .left) (c .before .if3 .left)
 
 pub feeds-right-spec : {M : Type 1} → statement M
 feeds-right-spec =

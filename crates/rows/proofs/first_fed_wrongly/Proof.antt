@@ -1,5 +1,4 @@
 -- `rows::first_fed_wrongly` meets its contract: the loop has passed rows that are fed rightly, so the first that is not is the first of all.
--- Assumes nothing.
 use native.Mathlib.Omega.{arith}
 use mathlib.Core.Bool.{not}
 use mathlib.Core.Path.{sym, ap, _∙_}
@@ -22,7 +21,10 @@ feeds-right-requires : tie.Need-feeds-right-requires Inv-loop μ-loop
 feeds-right-requires c κs = omega arith
 
 returns : tie.Need-returns Inv-loop μ-loop
-returns c = sym (passed-found _ (c .before .before .before .loop .inv) (c .before .before .loop-test .taken) (sym (ap not (c .before .feeds-right .ensures)) ∙ c .if1 .taken))
+returns c =
+    sym
+    (passed-found _ (c .before .before .before .loop .inv) (c .before .before .loop-test .taken)
+    (sym (ap not (c .before .feeds-right .ensures)) ∙ c .if1 .taken))
 
 add-i : tie.Need-add-i Inv-loop μ-loop
 add-i c = omega arith
@@ -31,7 +33,8 @@ loop-less : tie.Need-loop-less Inv-loop μ-loop
 loop-less c = omega arith
 
 loop-again : tie.Need-loop-again Inv-loop μ-loop
-loop-again c = passed-more _ (c .before .before .before .loop .inv) (c .before .before .loop-test .taken) (sym (ap not (c .before .feeds-right .ensures)) ∙ c .if1 .left)
+loop-again c =
+    passed-more _ (c .before .before .before .loop .inv) (c .before .before .loop-test .taken) (sym (ap not (c .before .feeds-right .ensures)) ∙ c .if1 .left)
 
 returns-2 : tie.Need-returns-2 Inv-loop μ-loop
 returns-2 c = sym (passed-all _ (c .before .loop .inv) (c .loop-test .left))

@@ -25,7 +25,10 @@ add-result : tie.Need-add-result Inv-loop μ-loop
 add-result c = omega arith
 
 returns : tie.Need-returns Inv-loop μ-loop
-returns c = fault-found _ _ _ (passed-found _ (c .before .before .before .loop .inv) (c .before .before .loop-test .taken) (sym (ap not (c .before .field-right .ensures)) ∙ c .if1 .taken))
+returns c =
+    fault-found _ _ _
+    (passed-found _ (c .before .before .before .loop .inv) (c .before .before .loop-test .taken)
+    (sym (ap not (c .before .field-right .ensures)) ∙ c .if1 .taken))
 
 add-k : tie.Need-add-k Inv-loop μ-loop
 add-k c = omega arith
@@ -34,7 +37,8 @@ loop-less : tie.Need-loop-less Inv-loop μ-loop
 loop-less c = omega arith
 
 loop-again : tie.Need-loop-again Inv-loop μ-loop
-loop-again c = passed-more _ (c .before .before .before .loop .inv) (c .before .before .loop-test .taken) (sym (ap not (c .before .field-right .ensures)) ∙ c .if1 .left)
+loop-again c =
+    passed-more _ (c .before .before .before .loop .inv) (c .before .before .loop-test .taken) (sym (ap not (c .before .field-right .ensures)) ∙ c .if1 .left)
 
 field-at-requires : tie.Need-field-at-requires Inv-loop μ-loop
 field-at-requires c κs = omega arith
@@ -46,10 +50,14 @@ add-result-2 : tie.Need-add-result-2 Inv-loop μ-loop
 add-result-2 c = omega arith
 
 returns-2 : tie.Need-returns-2 Inv-loop μ-loop
-returns-2 c = fault-none _ _ (passed-all _ (c .before .before .before .before .loop .inv) (c .before .before .before .loop-test .left)) (omega (arith, c .before .before .field-at .ensures, c .before .field-at2 .ensures))
+returns-2 c =
+    fault-none _ _ (passed-all _ (c .before .before .before .before .loop .inv) (c .before .before .before .loop-test .left))
+    (omega (arith, c .before .before .field-at .ensures, c .before .field-at2 .ensures))
 
 returns-3 : tie.Need-returns-3 Inv-loop μ-loop
-returns-3 c = fault-order _ _ (passed-all _ (c .before .before .before .before .loop .inv) (c .before .before .before .loop-test .left)) (omega (arith, c .before .before .field-at .ensures, c .before .field-at2 .ensures))
+returns-3 c =
+    fault-order _ _ (passed-all _ (c .before .before .before .before .loop .inv) (c .before .before .before .loop-test .left))
+    (omega (arith, c .before .before .field-at .ensures, c .before .field-at2 .ensures))
 
 pub row-fault-spec : {M : Type 1} → statement M
 row-fault-spec =

@@ -32,7 +32,8 @@ add-t12 c = omega arith
 returns : tie.Need-returns Inv-loop μ-loop
 returns c =
     let q = c .before .row-fault .ensures in
-    fields-found _ _ _ q (passed-found _ (c .before .before .before .before .loop .inv) (c .before .before .before .loop-test .taken) (row-wrong _ _ _ q (c .if1 .taken)))
+    fields-found _ _ _ q
+    (passed-found _ (c .before .before .before .before .loop .inv) (c .before .before .before .loop-test .taken) (row-wrong _ _ _ q (c .if1 .taken)))
 
 add-i : tie.Need-add-i Inv-loop μ-loop
 add-i c = omega arith
@@ -42,7 +43,8 @@ loop-less c = omega arith
 
 loop-again : tie.Need-loop-again Inv-loop μ-loop
 loop-again c =
-    passed-more _ (c .before .before .before .before .loop .inv) (c .before .before .before .loop-test .taken) (row-right _ _ _ (c .before .row-fault .ensures) (omega arith))
+    passed-more _ (c .before .before .before .before .loop .inv) (c .before .before .before .loop-test .taken)
+    (row-right _ _ _ (c .before .row-fault .ensures) (omega arith))
 
 returns-2 : tie.Need-returns-2 Inv-loop μ-loop
 returns-2 c = fields-none _ (passed-all _ (c .before .loop .inv) (c .loop-test .left))

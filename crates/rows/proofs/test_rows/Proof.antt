@@ -1,5 +1,4 @@
 -- `rows::test_rows` meets its contract: the fields' test decides, and where it passes the feeding's test.
--- Assumes nothing.
 use borrow.Author.Needs.{needs}
 use Rattle.rows.proofs.TestLaws.{rows-refused, rows-tree}
 use Rattle.rows.proofs.test_rows.Statement.{statement}

@@ -1,5 +1,4 @@
 -- `rows::test_tree` meets its contract: the first row fed wrongly decides.
--- Assumes nothing.
 use native.Mathlib.Omega.{arith}
 use borrow.Author.Needs.{needs}
 use mathlib.Core.Path.{sym, _∙_}

@@ -1,5 +1,4 @@
 -- `settle::cutoff_at` meets its contract: the least value from the bound rounded up is the least that stays clear; then its sensitivity decides.
--- Assumes nothing.
 use borrow.Author.Needs.{needs}
 use native.Mathlib.Nat.{lt-of-le-of-lt, mul-le-mul}
 use lib.Dec.{lit<}
@@ -24,21 +23,39 @@ enum-known-x c = search needs
 
 sees-near-requires : tie.Need-sees-near-requires
 sees-near-requires c κs =
-    (c .before .before .before .before .before .before .pre, found-bounded _ (c .before .before .before .before .before .before .pre) _ _ (sym (c .before .before .before .least-on .ensures) ∙ c .before .x .given .1))
+    let at-x = c .before in
+    let at-least-on = at-x .before .before in
+    let start = at-least-on .before .before .before in
+    (start .pre, found-bounded _ (start .pre) _ _ (sym (at-least-on .least-on .ensures) ∙ at-x .x .given .1))
 
 enum-told : tie.Need-enum-told
 enum-told c = search needs
 
 returns : tie.Need-returns
 returns c =
-    cutoff-fitted _ _ (sym (cutoff-from _ _ (c .before .before .before .before .before .before .ceil-div .ensures) (c .before .before .before .before .before .before .before .before .pre)) ∙ (sym (c .before .before .before .before .before .least-on .ensures) ∙ c .before .before .before .x .given .1)) (sym (c .before .sees-near .ensures) ∙ c .if1 .taken)
+    let at-sees-near = c .before in
+    let at-x = at-sees-near .before .before in
+    let at-least-on = at-x .before .before in
+    let at-ceil-div = at-least-on .before in
+    let start = at-ceil-div .before .before in
+    cutoff-fitted _ _ (sym (cutoff-from _ _ (at-ceil-div .ceil-div .ensures) (start .pre)) ∙ (sym (at-least-on .least-on .ensures) ∙ at-x .x .given .1))
+    (sym (at-sees-near .sees-near .ensures) ∙ c .if1 .taken)
 
 returns-2 : tie.Need-returns-2
 returns-2 c =
-    cutoff-blind _ _ (sym (cutoff-from _ _ (c .before .before .before .before .before .before .ceil-div .ensures) (c .before .before .before .before .before .before .before .before .pre)) ∙ (sym (c .before .before .before .before .before .least-on .ensures) ∙ c .before .before .before .x .given .1)) (sym (c .before .sees-near .ensures) ∙ c .if1 .left)
+    let at-sees-near = c .before in
+    let at-x = at-sees-near .before .before in
+    let at-least-on = at-x .before .before in
+    let at-ceil-div = at-least-on .before in
+    let start = at-ceil-div .before .before in
+    cutoff-blind _ _ (sym (cutoff-from _ _ (at-ceil-div .ceil-div .ensures) (start .pre)) ∙ (sym (at-least-on .least-on .ensures) ∙ at-x .x .given .1))
+    (sym (at-sees-near .sees-near .ensures) ∙ c .if1 .left)
 
 returns-3 : tie.Need-returns-3
-returns-3 c = cutoff-none _ (sym (cutoff-from _ _ (c .before .before .before .ceil-div .ensures) (c .before .before .before .before .before .pre)) ∙ (sym (c .before .before .least-on .ensures) ∙ c .enum-told .given .1))
+returns-3 c =
+    cutoff-none _
+    (sym (cutoff-from _ _ (c .before .before .before .ceil-div .ensures) (c .before .before .before .before .before .pre)) ∙
+    (sym (c .before .before .least-on .ensures) ∙ c .enum-told .given .1))
 
 pub cutoff-at-spec : {M : Type 1} → statement M
 cutoff-at-spec =

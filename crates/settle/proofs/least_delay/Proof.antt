@@ -1,5 +1,4 @@
 -- `settle::least_delay` meets its contract: between floor and ceiling, D1 and D2 hold exactly from the later of the two bounds on.
--- Assumes nothing.
 use borrow.Author.Needs.{needs}
 use mathlib.Core.Path.{_∙_}
 use mathlib.Core.Logic.{⊎-elim}

@@ -44,11 +44,15 @@ greater-requires c κs = search needs
 
 returns : tie.Need-returns
 returns c =
-    let a = c .before .before .before .before .before .before .before .before .before .args in
+    let at-ceil-div2 = c .before in
+    let at-over = at-ceil-div2 .before .before in
+    let at-ceil-div = at-over .before .before in
+    let start = at-ceil-div .before .before .before .before in
+    let a = start .args in
     λ (x : ℕ).
     ap (λ (b : ℕ). leb b x) (c .greater .ensures) ∙
-    pickup-bound (a .r) (a .f) (c .before .before .before .before .before .before .before .before .before .pre .0) _ _ (c .before .before .before .before .before .ceil-div .ensures)
-    (c .before .ceil-div2 .ensures ∙ ap (λ (k : ℕ). ceilDiv (11 * k) (10 * a .r .volts)) (c .before .before .before .over .ensures)) x
+    pickup-bound (a .r) (a .f) (start .pre .0) _ _ (at-ceil-div .ceil-div .ensures)
+    (at-ceil-div2 .ceil-div2 .ensures ∙ ap (λ (k : ℕ). ceilDiv (11 * k) (10 * a .r .volts)) (at-over .over .ensures)) x
 
 pub pickup-from-spec : {M : Type 1} → statement M
 pickup-from-spec =

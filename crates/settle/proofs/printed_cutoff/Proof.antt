@@ -1,5 +1,4 @@
 -- `settle::printed_cutoff` meets its contract: each case is `printed` of that case.
--- Assumes nothing.
 use borrow.Author.Needs.{needs}
 use mathlib.Core.Path.{sym, ap}
 use Rattle.settle.specs.Settle.{printed}

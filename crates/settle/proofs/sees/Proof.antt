@@ -1,5 +1,4 @@
 -- `settle::sees` meets its contract: the two tests are P3 and P4, multiplied out.
--- Assumes nothing.
 use borrow.Author.Needs.{needs}
 use native.Mathlib.Nat.{lt-of-le-of-lt, mul-le-mul, mul-le-mul-left}
 use lib.Dec.{lit<}

@@ -1,5 +1,4 @@
 -- `settle::sees_near` meets its contract: the factor is the kind's, and the test is the document's.
--- Assumes nothing.
 use native.Mathlib.Omega.{arith}
 use borrow.Author.Needs.{needs}
 use mathlib.Core.Path.{_∙_}
@@ -16,7 +15,9 @@ mul-result-2 : tie.Need-mul-result-2
 mul-result-2 c = search needs
 
 returns : tie.Need-returns
-returns c = sees-near-is _ _ _ (⊎-elim (λ w. w .1 ∙ rw (eq-eqb _ 1 (w .0 .taken))) (λ w. w .1 ∙ rw (ne-eqb _ 1 (w .0 .left))) (c .before .before .if1 .came))
+returns c =
+    sees-near-is _ _ _
+    (⊎-elim (λ w. w .1 ∙ rw (eq-eqb _ 1 (w .0 .taken))) (λ w. w .1 ∙ rw (ne-eqb _ 1 (w .0 .left))) (c .before .before .if1 .came))
 
 pub sees-near-spec : {M : Type 1} → statement M
 sees-near-spec = tie.close (tie.spec mul-result mul-result-2 returns)

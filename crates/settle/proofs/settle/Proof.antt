@@ -1,5 +1,4 @@
 -- `settle::settle` meets its contract: the two searches and the cutoff make the outcome; PICKUP is decided before DELAY.
--- Assumes nothing.
 use borrow.Author.Needs.{needs}
 use mathlib.Core.Path.{sym, _∙_}
 use Rattle.settle.proofs.OutcomeLaws.{no-pickup, no-delay, both-found}
@@ -32,11 +31,20 @@ returns c = no-pickup _ _ (sym (c .before .before .least-pickup .ensures) ∙ c 
 
 returns-2 : tie.Need-returns-2
 returns-2 c =
-    no-delay _ _ _ (sym (c .before .before .before .before .before .before .least-pickup .ensures) ∙ c .before .before .before .before .pickup .given .1) (sym (c .before .before .least-delay .ensures) ∙ c .enum-told2 .given .1)
+    let at-least-delay = c .before .before in
+    let at-pickup = at-least-delay .before .before in
+    let at-least-pickup = at-pickup .before .before in
+    no-delay _ _ _ (sym (at-least-pickup .least-pickup .ensures) ∙ at-pickup .pickup .given .1)
+    (sym (at-least-delay .least-delay .ensures) ∙ c .enum-told2 .given .1)
 
 returns-3 : tie.Need-returns-3
 returns-3 c =
-    both-found _ _ _ _ _ (sym (c .before .before .before .before .before .before .before .before .least-pickup .ensures) ∙ c .before .before .before .before .before .before .pickup .given .1) (sym (c .before .before .before .before .least-delay .ensures) ∙ c .before .before .delay .given .1) (c .cutoff-at .ensures)
+    let at-delay = c .before .before in
+    let at-least-delay = at-delay .before .before in
+    let at-pickup = at-least-delay .before .before in
+    let at-least-pickup = at-pickup .before .before in
+    both-found _ _ _ _ _ (sym (at-least-pickup .least-pickup .ensures) ∙ at-pickup .pickup .given .1)
+    (sym (at-least-delay .least-delay .ensures) ∙ at-delay .delay .given .1) (c .cutoff-at .ensures)
 
 pub settle-spec : {M : Type 1} → statement M
 settle-spec =

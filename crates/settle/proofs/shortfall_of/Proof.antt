@@ -1,5 +1,4 @@
 -- `settle::shortfall_of` meets its contract: far times volts stays below REACH.
--- Assumes nothing.
 use native.Mathlib.Omega.{arith}
 use native.Mathlib.Nat.{lt-of-le-of-lt}
 use lib.Dec.{lit<}

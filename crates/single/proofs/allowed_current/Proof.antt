@@ -1,5 +1,4 @@
 -- `single::allowed_current` meets its contract: where the first test fails, so does `allowed`, and otherwise the second decides.
--- Assumes nothing.
 use mathlib.Core.Path.{sym, ap, _∙_}
 use mathlib.Core.Bool.{Bool, _&&_}
 use lib.Dec.{leb}

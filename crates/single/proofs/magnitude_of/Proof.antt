@@ -1,5 +1,5 @@
 -- `single::magnitude_of` meets its contract: the fields of the bits are read as the single again, and `at-zero` and `above-zero` give its
--- size in each branch. Assumes nothing.
+-- size in each branch.
 use mathlib.Core.Path.{sym, _∙_}
 use lib.Dec.{T}
 use lib.Ieee.{binary32, fits}

@@ -1,4 +1,4 @@
--- `single::power_of_two` meets its contract: a one shifted by less than 64 places loses nothing. Assumes nothing.
+-- `single::power_of_two` meets its contract: a one shifted by less than 64 places loses nothing.
 use native.Mathlib.Nat.{one-mul}
 use native.Mathlib.Omega.{arith}
 use mathlib.Core.Path.{_∙_}

@@ -1,4 +1,4 @@
--- `single::rounded` meets its contract: each arm is the case that `wholeOf` has for its direction. Assumes nothing.
+-- `single::rounded` meets its contract: each arm is the case that `wholeOf` has for its direction.
 use mathlib.Core.Path.{sym, ap}
 use borrow.Author.Needs.{needs}
 use Rattle.single.specs.declared.Rounding.{Rounding}

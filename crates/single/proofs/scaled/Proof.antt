@@ -1,5 +1,4 @@
 -- `single::scaled` meets its contract: each branch is one of `cut`, `divided` and `multiplied`, and the products are below 2 ^ 54.
--- Assumes nothing.
 use native.Mathlib.Omega.{arith}
 use borrow.Author.Needs.{needs}
 use Rattle.single.proofs.ScaleLaws.{product-small, shifted-small, cut, divided, multiplied}

@@ -1,5 +1,5 @@
 -- `single::whole_current` meets its contract: a single that a comparison sends away is refused by section 5 too (`below-zero`, `too-great`), and
--- the mA of any other are its size's (`by-size`), which the fraction of `scaled` rounds alike. Assumes nothing.
+-- the mA of any other are its size's (`by-size`), which the fraction of `scaled` rounds alike.
 use mathlib.Core.Path.{_≡_, sym, ap, _∙_}
 use mathlib.Core.Bool.{Bool, cond}
 use lib.Ieee.{Float, binary32, ofBits, le, lt}
@@ -48,7 +48,10 @@ allowed-current-requires c κs = search needs
 
 -- from where the whole number is tested to the entry
 abbrev start : tie.After-allowed-current → tie.Start
-start c = c .before .before .before .before .before .before
+start c =
+    let at-5 = c .before .before .before .before .before in
+    let at-place = at-5 .before in
+    at-place
 
 -- what was rounded is what section 5 rounds
 whole : (c : tie.After-allowed-current) → currentOf (start c .args .to) (start c .args .x) (start c .args .scale) ≡ ifAllowed (c .before .rounded .result)

@@ -1,4 +1,4 @@
--- `whole::copy_front` meets its contract: the first n numbers are copied to the front. Assumes nothing.
+-- `whole::copy_front` meets its contract: the first n numbers are copied to the front.
 use native.Mathlib.Omega.{arith}
 use borrow.Author.Needs.{needs}
 use mathlib.Core.Path.{sym, _∙_}
@@ -20,7 +20,10 @@ same-length : tie.Need-same-length
 same-length c = search needs
 
 returns : tie.Need-returns
-returns c = c .before .before .put .ensures ∙ front-pasted _ _ _ (c .before .before .before .before .before .before .before .pre .1)
+returns c =
+    let at-put = c .before .before in
+    let start = at-put .before .before .before .before .before in
+    at-put .put .ensures ∙ front-pasted _ _ _ (start .pre .1)
 
 pub copy-front-spec : {M : Type 1} → statement M
 copy-front-spec = tie.close (tie.spec slice-aggregate-put put-requires same-length returns)

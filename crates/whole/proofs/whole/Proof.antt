@@ -1,5 +1,4 @@
 -- `whole::whole` meets its contract: the answer's numbers, and the card that `answer` leaves.
--- Assumes nothing.
 use borrow.Author.Needs.{needs}
 use mathlib.Core.Path.{ap, _∙_}
 use Rattle.answers.specs.Answer.{givenBy}

@@ -1,5 +1,4 @@
 -- `whole::work_all` meets its contract: the rows below i are done, and what is left of the calculation is that of the rows from i on.
--- Assumes nothing.
 use native.Mathlib.Omega.{arith}
 use borrow.Author.Needs.{needs}
 use mathlib.Core.Path.{_∙_}
@@ -19,20 +18,38 @@ loop-holds c = all-start _ _ _ _ (c .before .before .before .pre)
 
 work-row-requires : tie.Need-work-row-requires Inv-loop μ-loop
 work-row-requires c κs =
-    all-ready _ _ _ _ _ _ (c .before .before .before .loop .inv) (omega (arith, c .before .before .loop-test .taken, c .before .before .before .before .before .before .before .pre .all-rows))
+    let at-loop-test = c .before .before in
+    let at-loop = at-loop-test .before in
+    let start = at-loop .before .before .before .before in
+    all-ready _ _ _ _ _ _ (at-loop .loop .inv) (omega (arith, at-loop-test .loop-test .taken, start .pre .all-rows))
 
 enum-known-tested : tie.Need-enum-known-tested Inv-loop μ-loop
 enum-known-tested c = search needs
 
 same-length : tie.Need-same-length Inv-loop μ-loop
-same-length c = c .before .before .before .before .before .before .before .work-row .kept .1 .1 .0 ∙ c .before .before .before .before .before .before .before .before .before .before .before .loop .inv .card-length
+same-length c =
+    let at-5 = c .before .before .before .before .before in
+    let at-work-row = at-5 .before .before in
+    let at-loop = at-work-row .before .before .before .before in
+    at-work-row .work-row .kept .1 .1 .0 ∙ at-loop .loop .inv .card-length
 
 same-length-2 : tie.Need-same-length-2 Inv-loop μ-loop
-same-length-2 c = c .before .before .before .before .before .before .before .work-row .kept .1 .1 .1 .0 ∙ c .before .before .before .before .before .before .before .before .before .before .before .loop .inv .sums-length
+same-length-2 c =
+    let at-5 = c .before .before .before .before .before in
+    let at-work-row = at-5 .before .before in
+    let at-loop = at-work-row .before .before .before .before in
+    at-work-row .work-row .kept .1 .1 .1 .0 ∙ at-loop .loop .inv .sums-length
 
 returns : tie.Need-returns Inv-loop μ-loop
 returns c =
-    all-refused _ _ _ _ _ _ (c .before .before .before .before .before .before .before .before .before .before .before .loop .inv) (omega (arith, c .before .before .before .before .before .before .before .before .before .before .loop-test .taken, c .before .before .before .before .before .before .before .before .before .before .before .before .before .before .before .pre .all-rows)) _ _ _ _ (c .before .tested .given .1) (c .before .before .before .before .before .before .before .work-row .ensures)
+    let at-tested = c .before in
+    let at-6 = at-tested .before .before .before .before .before in
+    let at-work-row = at-6 .before in
+    let at-loop-test = at-work-row .before .before .before in
+    let at-loop = at-loop-test .before in
+    let start = at-loop .before .before .before .before in
+    all-refused _ _ _ _ _ _ (at-loop .loop .inv) (omega (arith, at-loop-test .loop-test .taken, start .pre .all-rows)) _ _ _ _ (at-tested .tested .given .1)
+    (at-work-row .work-row .ensures)
 
 enum-told : tie.Need-enum-told Inv-loop μ-loop
 enum-told c = search needs
@@ -45,7 +62,13 @@ loop-less c = omega arith
 
 loop-again : tie.Need-loop-again Inv-loop μ-loop
 loop-again c =
-    all-next _ _ _ _ _ _ (c .before .before .before .before .before .before .before .before .before .before .loop .inv) (omega (arith, c .before .before .before .before .before .before .before .before .before .loop-test .taken, c .before .before .before .before .before .before .before .before .before .before .before .before .before .before .pre .all-rows)) _ _ _ (c .enum-told .given .1) (c .before .before .before .before .before .before .work-row .ensures)
+    let at-5 = c .before .before .before .before .before in
+    let at-work-row = at-5 .before in
+    let at-loop-test = at-work-row .before .before .before in
+    let at-loop = at-loop-test .before in
+    let start = at-loop .before .before .before .before in
+    all-next _ _ _ _ _ _ (at-loop .loop .inv) (omega (arith, at-loop-test .loop-test .taken, start .pre .all-rows)) _ _ _ (c .enum-told .given .1)
+    (at-work-row .work-row .ensures)
 
 same-length-3 : tie.Need-same-length-3 Inv-loop μ-loop
 same-length-3 c = c .before .loop .inv .card-length

@@ -1,5 +1,4 @@
 -- `work::join` meets its contract: each number is the sum or the greater of the two.
--- Assumes nothing.
 use borrow.Author.Needs.{needs}
 use Rattle.work.proofs.join.Statement.{statement}
 use Rattle.work.proofs.join.Tie as tie
