@@ -12,7 +12,7 @@ use borrow.Author.Tests.{le-leb, lt-leb}
 use Rattle.grid.proofs.FoldLaws.{every-at}
 use Rattle.answers.specs.Answer.{numberCount}
 use Rattle.cursor.specs.Pieces.{nameMost}
-use Rattle.text.specs.Names.{nameAtPlace, namesAt}
+use Rattle.cursor.specs.Names.{nameAtPlace, namesAt}
 use Rattle.print.specs.Write.{numberText, written, Wrote}
 use Rattle.print.specs.Card.{cardCount, headerSize, lineMost, refusalMost, cardHeader, refusalHeader, lineEnd, fieldsText, lineText, rowsText, cardText, refusalText, placeRight, printable, Printed, cardPrinted, refusalPrinted}
 use Rattle.print.proofs.DigitLaws.{number-few}

@@ -15,7 +15,7 @@ use Rattle.answers.specs.Answer.{givenBy}
 use Rattle.rows.proofs.TestLaws.{size-over}
 use Rattle.line.specs.Line.{fieldCount}
 use Rattle.text.specs.declared.Reading.the-variants.{BadLine, Rows}
-use Rattle.text.specs.Names.{nameAtPlace, namesAt}
+use Rattle.cursor.specs.Names.{nameAtPlace, namesAt}
 use Rattle.text.specs.Text.{reading, rowNumbers, rowPlaces, over, blocksOver}
 use Rattle.print.specs.Card.{placeRight, printable, cardPrinted, refusalMost, refusalPrinted, Printed}
 use Rattle.print.specs.Write.{written}
