@@ -7,7 +7,7 @@ use lib.ListN.{length, take, drop, getD, length-append, length-take}
 use lib.Seq.{drop-drop, getD-drop}
 use Rattle.grid.proofs.FoldLaws.{every-at}
 use Rattle.cursor.specs.Pieces.{nameMost}
-use Rattle.text.specs.Names.{nameAtPlace, namesAt}
+use Rattle.cursor.specs.Names.{nameAtPlace, namesAt}
 use Rattle.print.specs.Write.{Wrote}
 use Rattle.print.specs.Card.{cardCount, lineMost, lineEnd, fieldsText, lineText, rowsText, placeRight, RowsFit, RowFits}
 use Rattle.print.proofs.FieldsLaws.{fields-short}

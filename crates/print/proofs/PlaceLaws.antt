@@ -13,7 +13,7 @@ use Rattle.grid.specs.Fold.{every}
 use Rattle.grid.proofs.BoolLaws.{and-left, and-right, not-both, fails}
 use Rattle.grid.proofs.FoldLaws.{every-at}
 use Rattle.cursor.specs.Pieces.{nameMost}
-use Rattle.text.specs.Names.{nameAtPlace}
+use Rattle.cursor.specs.Names.{nameAtPlace}
 use Rattle.print.specs.Card.{cardCount, headerSize, lineMost, placeRight, printable, RowsFit}
 
 module _ (size : ℕ) (places : List ℕ) (i : ℕ) where

@@ -1,4 +1,4 @@
--- What is printed in the end: a refusal, a card, or nothing. Assumes nothing.
+-- What is printed in the end: a refusal, a card, or nothing.
 use mathlib.Core.Path.{_≡_, refl}
 use mathlib.Core.Bool.{true, false}
 use mathlib.Core.List.{List, [], _∷_, _++_}
@@ -12,9 +12,9 @@ use borrow.Author.Tests.{le-leb, lt-leb}
 use Rattle.grid.proofs.FoldLaws.{every-at}
 use Rattle.answers.specs.Answer.{numberCount}
 use Rattle.cursor.specs.Pieces.{nameMost}
-use Rattle.text.specs.Names.{nameAtPlace, namesAt}
+use Rattle.cursor.specs.Names.{nameAtPlace, namesAt}
 use Rattle.print.specs.Write.{numberText, written, Wrote}
-use Rattle.print.specs.Card.{cardCount, lineMost, refusalMost, cardHeader, refusalHeader, lineEnd, fieldsText, lineText, rowsText, cardText, refusalText, placeRight, printable, Printed, cardPrinted, refusalPrinted}
+use Rattle.print.specs.Card.{cardCount, headerSize, lineMost, refusalMost, cardHeader, refusalHeader, lineEnd, fieldsText, lineText, rowsText, cardText, refusalText, placeRight, printable, Printed, cardPrinted, refusalPrinted}
 use Rattle.print.proofs.DigitLaws.{number-few}
 use Rattle.print.proofs.FieldsLaws.{fields-short}
 use Rattle.print.proofs.PlaceLaws.{place-was, printable-room}
@@ -41,6 +41,14 @@ nothing-printed out =
 pub refusal-none : (numbers out : List ℕ) → length out < refusalMost → Printed out (refusalPrinted numbers (length out)) out 0
 unfolding refusalPrinted
 refusal-none numbers out h = rw (lt-leb refusalMost (length out) h) (nothing-printed out)
+
+pub refusal-short : (numbers : List ℕ) → length (refusalText numbers) ≤ refusalMost
+unfolding refusalText
+refusal-short numbers =
+    let first = numberText (getD numbers 0 0) in
+    let more = fieldsText (numberCount - 1) (drop 1 numbers) in
+    omega
+    (arith, number-few (getD numbers 0 0), fields-short (numberCount - 1) (drop 1 numbers), length-append refusalHeader first, length-append (refusalHeader ++ first) more, length-append (refusalHeader ++ first ++ more) lineEnd)
 
 pub refusal-all :
     (numbers out o₁ o₂ o₃ o₄ : List ℕ) (r₁ r₂ r₃ r₄ : ℕ) → refusalMost ≤ length out → length o₄ ≡ length out →
@@ -81,17 +89,21 @@ rows-short s places card (suc n) i h =
     (omega
     (arith, k, r, length-append (lineText (nameAtPlace s (drop (i * 2) places)) card) (rowsText (namesAt s n (drop ((i + 1) * 2) places)) (drop cardCount card))))
 
+pub card-short :
+    (s places card : List ℕ) (n : ℕ) → ((j : ℕ) → j < n → getD places (j * 2 + 1) 0 ≤ nameMost) →
+    length (cardText (namesAt s n places) card) ≤ headerSize + n * lineMost
+unfolding cardText
+card-short s places card n h =
+    let k = rows-short s places card n 0 (λ j l. let e : (0 + j) * 2 + 1 ≡ j * 2 + 1 = omega arith in rw e (h j l)) in
+    omega (arith, k, length-append cardHeader (rowsText (namesAt s n places) card))
+
 pub card-all :
     (s places card : List ℕ) (n : ℕ) (out o₁ o₂ : List ℕ) (r₁ r₂ : ℕ) → printable (length s) places (length card) n (length out) ≡ true → length o₂ ≡ length out →
     Wrote out 0 cardHeader o₁ r₁ → Wrote o₁ r₁ (rowsText (namesAt s n places) card) o₂ r₂ → Printed out (cardPrinted s places card n (length out)) o₂ r₂
 unfolding cardPrinted cardText
 card-all s places card n out o₁ o₂ r₁ r₂ h same w₁ w₂ =
     let room = printable-room (length s) places (length card) n (length out) h in
-    let k =
-    rows-short s places card n 0
-    (λ j l.
-    let e : (0 + j) * 2 + 1 ≡ j * 2 + 1 = omega arith in
-    rw e (place-was (length s) places j (every-at (placeRight (length s) places) n j (room .rows .right) l) .short)) in
+    let k = card-short s places card n (λ j l. place-was (length s) places j (every-at (placeRight (length s) places) n j (room .rows .right) l) .short) in
     let f : List ℕ = rowsText (namesAt s n places) card in
-    let v = wrote-then out 0 cardHeader o₁ r₁ f o₂ r₂ (omega (arith, k, room .rows .out-room)) w₁ w₂ in
-    rw h (wrote-printed out (cardHeader ++ f) o₂ r₂ (omega (arith, k, room .rows .out-room, length-append cardHeader f)) same v)
+    let v = wrote-then out 0 cardHeader o₁ r₁ f o₂ r₂ (omega (arith, k, room .rows .out-room, length-append cardHeader f)) w₁ w₂ in
+    rw h (wrote-printed out (cardHeader ++ f) o₂ r₂ (omega (arith, k, room .rows .out-room)) same v)

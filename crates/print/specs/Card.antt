@@ -8,7 +8,7 @@ use lib.ListN.{length, getD, take, drop}
 use Rattle.answers.specs.Answer.{numberCount}
 use Rattle.grid.specs.Fold.{every}
 use Rattle.cursor.specs.Pieces.{nameMost}
-use Rattle.text.specs.Names.{namesAt}
+use Rattle.cursor.specs.Names.{namesAt}
 use Rattle.print.specs.Write.{digitsMost, numberText, written}
 
 -- a card row has so many numbers

@@ -20,7 +20,7 @@ use Rattle.line.specs.Line.{isNamed, isLine, numbersOf, nameStart, nameSize, ar
 use Rattle.line.proofs.RowLaws.{numbers-long}
 use Rattle.text.specs.declared.Reading.the-variants.{BadLine, Rows}
 use Rattle.text.specs.Grammar.{Row, rowOf, rowsOf}
-use Rattle.text.specs.Names.{nameAtPlace, namesAt}
+use Rattle.cursor.specs.Names.{nameAtPlace, namesAt}
 use Rattle.text.specs.Text.{lines, lineLength, afterLine, nextIsLine, goodLines, linesRead, sizeRight, headed, rowLines, reading, rowsRead, allNumbers, allPlaces, rowNumbers, rowPlaces}
 use Rattle.text.proofs.GrammarNames.{name-sound}
 use Rattle.text.proofs.GrammarText.{cut-some}

@@ -15,7 +15,7 @@ use Rattle.answers.specs.Answer.{givenBy}
 use Rattle.rows.proofs.TestLaws.{size-over}
 use Rattle.line.specs.Line.{fieldCount}
 use Rattle.text.specs.declared.Reading.the-variants.{BadLine, Rows}
-use Rattle.text.specs.Names.{nameAtPlace, namesAt}
+use Rattle.cursor.specs.Names.{nameAtPlace, namesAt}
 use Rattle.text.specs.Text.{reading, rowNumbers, rowPlaces, over, blocksOver}
 use Rattle.print.specs.Card.{placeRight, printable, cardPrinted, refusalMost, refusalPrinted, Printed}
 use Rattle.print.specs.Write.{written}
@@ -52,6 +52,13 @@ right-front size ps rest k h p =
     and-both
     (and-both (le-leb _ _ (p .short)) (le-leb (getD ps (k * 2) 0) size (omega arith)))
     (le-leb (getD ps (k * 2 + 1) 0) (size - getD ps (k * 2) 0) (omega arith)))
+
+-- more than 256 rows are COUNT
+pub many-count : (s : List ℕ) (n : ℕ) → reading s ≡ Rows n → 256 < n → whole (rowNumbers s) blankCard .answer ≡ answer.Count
+many-count s n e h =
+    let long = rows-stand s n e .numbers-long in
+    let size = size-over (length (rowNumbers s)) (length blankCard) (omega arith) (omega arith) (omega arith) in
+    sym (answered-size (rowNumbers s) blankCard _ answer.Count refl (sym size) .answer)
 
 module _ (s list names : List ℕ) (n room : ℕ) (r : RowsReady s list names n room) where
   stand : RowsStand s n
@@ -112,10 +119,7 @@ module _ (s list names : List ℕ) (n room : ℕ) (r : RowsReady s list names n 
   pub many-filled : (g out out′ g′ : List ℕ) (bytes : ℕ) → g ≡ givenBy answer.Count → 256 < n → Filled (refusedWith g) out g′ bytes out′ → Filled (sheetOf s) out g′ bytes out′
   unfolding sheetOf sheetBy sheetWith
   many-filled g out out′ g′ bytes q h f =
-      let long = stand .numbers-long in
-      let size = size-over (length (rowNumbers s)) (length blankCard) (omega arith) (omega arith) (omega arith) in
-      let e = answered-size (rowNumbers s) blankCard _ answer.Count refl (sym size) .answer in
-      rw (r .read, ← e) (rw q at f)
+      rw (r .read, many-count s n (r .read) h) (rw q at f)
 
 -- a bad line
 pub bad-filled : (s : List ℕ) (line : ℕ) (g out out′ g′ : List ℕ) (bytes : ℕ) → reading s ≡ BadLine line → g ≡ givenBy (answer.Text line) → Filled (refusedWith g) out g′ bytes out′ → Filled (sheetOf s) out g′ bytes out′

@@ -7,7 +7,7 @@ use Rattle.cursor.specs.Pieces.{digits, isNumber, plainPart, bareEnd, nameEnd, 
 use Rattle.line.specs.Line.{isEnd, afterField, afterName, areFields, fieldsOf, isNamed, isLine, nameStart, nameSize}
 use Rattle.text.specs.declared.Reading.the-variants.{Rows, BadLine}
 use Rattle.text.specs.Header.{header}
-use Rattle.text.specs.Names.{nameAtPlace, namesAt}
+use Rattle.cursor.specs.Names.{nameAtPlace, namesAt}
 use Rattle.text.specs.Text.{onto, lines, lineLength, afterLine, nextIsLine, goodLines, linesRead, same, sizeRight, headed, rowLines, reading, allPlaces, rowPlaces}
 
 unfoldable pub first : List ℕ

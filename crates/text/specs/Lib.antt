@@ -1,4 +1,3 @@
 pub mod Grammar
 pub mod Header
-pub mod Names
 pub mod Text
