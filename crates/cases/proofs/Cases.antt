@@ -1,19 +1,19 @@
 -- The starred cases of section 7 hold, of the definitions that the contracts cite: the whole table computes to what document 01 says.
 use mathlib.Core.Path.{_≡_, refl}
 use mathlib.Core.List.{map}
-use Rattle.grid.specs.First.{first}
-use Rattle.grid.specs.Fold.{sumTo, every}
+use Rattle.fold.specs.First.{first}
+use Rattle.fold.specs.Fold.{sumTo, every}
 use Rattle.grid.specs.Grid.{count, valueAt, leastOn}
 use Rattle.layout.specs.Card.{putCardRow}
 use Rattle.layout.specs.Fields.{inBounds}
 use Rattle.rows.specs.Tests.{sizeTest, rowsTest, fieldRight, faultAfter, rowFault, feedsRight, treeAnswer, treeTest, fieldAnswer}
 use Rattle.settle.specs.Conditions.{returnsAfterSelfStart, clearOf, seesOwnZone, backsUp, withinDelays, margin, gradedAbove, staysClear, seesNear}
 use Rattle.settle.specs.Settle.{meetsPickup, meetsDelay, fitting, cutoffOf, printed, shown, outcomeOf, settled}
-use Rattle.work.specs.WorkOut.{onSettled, workOut, upFrom}
-use Rattle.whole.specs.Whole.{ending, after, calculation, whole}
+use Rattle.rowwise.specs.WorkOut.{onSettled, workOut, upFrom}
+use Rattle.calculate.specs.Whole.{ending, after, calculation, whole}
 use Rattle.cases.specs.Cases.{Starred, comes, starred, table, twoRows, twoCard, blank, firstRow, underOne, pickups}
 use Rattle.path.specs.Path.{pathFrom, pathOf}
-use Rattle.edit.specs.Edit.{putList, editRight, editTest}
+use Rattle.change.specs.Edit.{putList, editRight, editTest}
 use Rattle.change.specs.Replace.{onPassed, reworked, outcome, replaced}
 use Rattle.path.specs.CardTest.{cardRight, cardAnswer, cardTest}
 

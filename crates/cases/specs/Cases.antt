@@ -8,7 +8,7 @@ use Rattle.answers.specs.declared.Answer.the-variants.{Done, Unsettled}
 use Rattle.answers.specs.declared.Reason.the-variants.{Pickup, Delay}
 use Rattle.layout.specs.View.{viewOf, Settings}
 use Rattle.settle.specs.Conditions.{eachFed, clearOf}
-use Rattle.whole.specs.Whole.{whole}
+use Rattle.calculate.specs.Whole.{whole}
 use Rattle.change.specs.Replace.{replaced}
 
 -- the list of section 6: F1, fed by IN

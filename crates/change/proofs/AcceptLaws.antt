@@ -7,8 +7,8 @@ use Prim.Native.Nat.{ℕ, _*_, _≤_, _<_}
 use native.Mathlib.Nat.{le-trans}
 use native.Mathlib.Omega.{arith}
 use lib.ListN.{length}
-use Rattle.grid.specs.declared.Found.{Found}
-use Rattle.grid.specs.declared.Found.the-variants.{At, Nothing}
+use Rattle.fold.specs.declared.Found.{Found}
+use Rattle.fold.specs.declared.Found.the-variants.{At, Nothing}
 use Rattle.grid.proofs.GridLaws.{leastOn-least}
 use Rattle.answers.specs.declared.Answer.{Answer}
 use Rattle.answers.specs.declared.Answer.the-variants.{Done}
@@ -29,11 +29,11 @@ use Rattle.settle.specs.declared.Cutoff.the-variants.{Fitted, NotFitted}
 use Rattle.settle.specs.Conditions.{seesNear, staysClear}
 use Rattle.settle.specs.Settle.{leastPickup, fitting, cutoffOf, printed, shown, settled}
 use Rattle.settle.proofs.OutcomeLaws.{outcome-set}
-use Rattle.work.specs.WorkOut.{Worked, finished, refused}
-use Rattle.whole.specs.Whole.{Result, ending, after, calculation, whole}
-use Rattle.whole.proofs.FrameLaws.{calculation-keeps}
-use Rattle.whole.proofs.MeetsLaws.{pickup-least, delay-least}
-use Rattle.whole.proofs.SettledLaws.{Settles, calculation-settled}
+use Rattle.rowwise.specs.WorkOut.{Worked, finished, refused}
+use Rattle.calculate.specs.Whole.{Result, ending, after, calculation, whole}
+use Rattle.calculate.proofs.FrameLaws.{calculation-keeps}
+use Rattle.calculate.proofs.MeetsLaws.{pickup-least, delay-least}
+use Rattle.calculate.proofs.SettledLaws.{Settles, calculation-settled}
 use Rattle.change.specs.Replace.{onPassed}
 use Rattle.change.proofs.RefusalLaws.{Later, refuses-done, size-refuses, rows-later, work-later, passed-refused, passed-finished}
 use Rattle.path.proofs.CardTestLaws.{CardFits}

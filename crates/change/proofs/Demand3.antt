@@ -13,7 +13,7 @@ use mathlib.Core.Logic.{_↔_, _⊎_, ⊎-elim}
 use mathlib.Core.List.{List, [], _∷_}
 use Prim.Native.Nat.{ℕ, _+_, _-_, _*_, _≤_, _<_}
 use lib.ListN.{length, getD, drop}
-use Rattle.grid.proofs.BoolLaws.{fails, zero-not-one}
+use Rattle.fold.proofs.BoolLaws.{fails, zero-not-one}
 use Rattle.answers.specs.declared.Answer.{Answer}
 use Rattle.answers.specs.declared.Answer.the-variants.{Done, Edit}
 use Rattle.answers.specs.declared.Tested.the-variants.{Passed}
@@ -21,19 +21,19 @@ use Rattle.layout.specs.Card.{cardRowAt}
 use Rattle.layout.specs.Counts.{fieldCount, columnCount}
 use Rattle.layout.specs.List.{rows}
 use Rattle.rows.specs.Tests.{sizeTest}
-use Rattle.work.specs.WorkOut.{Worked, finished, refused}
-use Rattle.whole.specs.Whole.{Result, ending, whole}
+use Rattle.rowwise.specs.WorkOut.{Worked, finished, refused}
+use Rattle.calculate.specs.Whole.{Result, ending, whole}
 use Rattle.path.specs.Path.{pathOf, onPath}
-use Rattle.edit.specs.Edit.{putList, editRight}
+use Rattle.change.specs.Edit.{putList, editRight}
 use Rattle.change.specs.Replace.{reworked, Replaced, outcome, replaced}
 use Rattle.change.specs.Series.{Request, replacements, entered, Ledger, ledger, putDone}
 use Rattle.change.proofs.AcceptLaws.{accepts}
 use Rattle.change.proofs.EditedLaws.{edited-put}
 use Rattle.change.proofs.KeptLaws.{replaces, replaced-list, refused-keeps, workOut-keeps, off-outside, path-within}
-use Rattle.edit.proofs.PutLaws.{putList-before, putList-after}
+use Rattle.change.proofs.PutLaws.{putList-before, putList-after}
 use Rattle.change.proofs.RefusalLaws.{Refuses, refuses-done, later-edit, reworked-later}
 use Rattle.change.proofs.SeriesLaws.{one-agrees, replaced-edit, replaced-edited, replaced-made, whole-made, made, made-answer, made-refuses}
-use Rattle.edit.proofs.TestLaws.{edit-fits}
+use Rattle.change.proofs.EditLaws.{edit-fits}
 
 done-not-edit : Done ≡ Edit → ⊥
 done-not-edit e = zero-not-one cc

@@ -10,15 +10,15 @@ use lib.Dec.{eqb, ltb}
 use lib.ListN.{length}
 use borrow.Author.Tests.{eqb-true, eqb-false, ltb-true, ltb-false}
 use Rattle.layout.specs.Counts.{fieldCount}
-use Rattle.grid.proofs.BoolLaws.{passes-or-fails}
+use Rattle.fold.proofs.BoolLaws.{passes-or-fails}
 use Rattle.layout.specs.Fields.{atFeeder}
 use Rattle.layout.specs.List.{rows, field, rowAt}
 use Rattle.layout.proofs.RowLaws.{same-row}
 use Rattle.path.specs.Path.{pathFrom, pathOf, onPath, has}
-use Rattle.edit.specs.Edit.{PutReady}
-use Rattle.edit.specs.Edit.{putList}
-use Rattle.edit.proofs.PutLaws.{putList-length, putList-before, putList-within, putList-after}
-use Rattle.edit.proofs.TestLaws.{EditFits}
+use Rattle.change.specs.Edit.{PutReady}
+use Rattle.change.specs.Edit.{putList}
+use Rattle.change.proofs.PutLaws.{putList-length, putList-before, putList-within, putList-after}
+use Rattle.change.proofs.EditLaws.{EditFits}
 
 -- two lists with the same feeding rows have the same paths
 paths-same :

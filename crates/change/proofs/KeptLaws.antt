@@ -7,7 +7,7 @@ use native.Mathlib.Omega.{arith}
 use lib.Dec.{eqb}
 use lib.ListN.{length, drop}
 use borrow.Author.Tests.{eq-eqb}
-use Rattle.grid.proofs.BoolLaws.{not-both, or-left, or-right}
+use Rattle.fold.proofs.BoolLaws.{not-both, or-left, or-right}
 use Rattle.answers.specs.declared.Answer.{Answer}
 use Rattle.answers.specs.declared.Answer.the-variants.{Done}
 use Rattle.answers.specs.declared.Tested.the-variants.{Passed}
@@ -23,15 +23,15 @@ use Rattle.rows.proofs.InRangeLaws.{passed-feeds}
 use Rattle.settle.specs.declared.Settled.{Settled}
 use Rattle.settle.specs.declared.Settled.the-variants.{Set, Unset}
 use Rattle.settle.specs.Settle.{shown, settled}
-use Rattle.work.specs.WorkOut.{Worked, finished, refused, onSettled, workOut}
-use Rattle.work.proofs.EndLaws.{never-finished}
+use Rattle.rowwise.specs.WorkOut.{Worked, finished, refused, onSettled, workOut}
+use Rattle.rowwise.proofs.EndLaws.{never-finished}
 use Rattle.path.specs.Path.{pathOf, has, onPath}
-use Rattle.edit.specs.Edit.{putList, editTest}
+use Rattle.change.specs.Edit.{putList, editTest}
 use Rattle.change.specs.Replace.{onPassed, reworked, outcome, replaced}
 use Rattle.change.proofs.EditedLaws.{edited-rows, edited-is-row, edited-path}
 use Rattle.path.proofs.PathLaws.{on-within}
 use Rattle.change.proofs.RefusalLaws.{Refuses, refuses-done, size-refuses, edit-refuses, reworked-later, passed-refused, passed-finished}
-use Rattle.edit.proofs.TestLaws.{EditFits, edit-passed}
+use Rattle.change.proofs.EditLaws.{EditFits, edit-passed}
 
 module _ (l : List ℕ) where
   pub record Keeps (is c c′ : List ℕ) : Type 0 where

@@ -1,8 +1,10 @@
 pub mod AcceptLaws
 pub mod Demand3
+pub mod EditLaws
 pub mod EditedLaws
 pub mod EntryLaws
 pub mod KeptLaws
+pub mod PutLaws
 pub mod RefusalLaws
 pub mod ReworkLaws
 pub mod SeriesLaws

@@ -5,9 +5,9 @@ use mathlib.Core.List.{List, [], _∷_}
 use Prim.Native.Nat.{ℕ, _*_, _/_, _%_}
 use native.Mathlib.Omega.{arith}
 use lib.Dec.{eqb, leb}
-use Rattle.grid.specs.declared.Found.{Found}
-use Rattle.grid.specs.declared.Found.the-variants.{At, Nothing}
-use Rattle.grid.specs.First.{first}
+use Rattle.fold.specs.declared.Found.{Found}
+use Rattle.fold.specs.declared.Found.the-variants.{At, Nothing}
+use Rattle.fold.specs.First.{first}
 use Rattle.answers.specs.declared.Answer.{Answer}
 use Rattle.answers.specs.declared.Answer.the-variants.{Done, Count, Room, Edit}
 use Rattle.answers.specs.declared.Tested.{Tested}
@@ -22,9 +22,9 @@ use Rattle.rows.specs.Tests.{sizeTest, rowsTest, fieldAnswer, treeTest, treeAns
 use Rattle.settle.specs.declared.Settled.{Settled}
 use Rattle.settle.specs.declared.Settled.the-variants.{Set, Unset}
 use Rattle.settle.specs.Settle.{shown, settled}
-use Rattle.work.specs.WorkOut.{Worked, finished, refused, onSettled, workOut}
-use Rattle.work.proofs.EndLaws.{never-passed, never-finished, same-answer, same-refusal}
-use Rattle.edit.specs.Edit.{editRight, editTest}
+use Rattle.rowwise.specs.WorkOut.{Worked, finished, refused, onSettled, workOut}
+use Rattle.rowwise.proofs.EndLaws.{never-passed, never-finished, same-answer, same-refusal}
+use Rattle.change.specs.Edit.{editRight, editTest}
 use Rattle.change.specs.Replace.{onPassed, reworked}
 use Rattle.path.specs.CardTest.{cardTest, cardAnswer}
 

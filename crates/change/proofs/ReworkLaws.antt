@@ -6,7 +6,7 @@ use mathlib.Core.List.{List}
 use Prim.Native.Nat.{ℕ, _+_, _-_, _*_, _≤_, _<_}
 use lib.Dec.{eqb}
 use lib.ListN.{length, drop}
-use Rattle.grid.proofs.BoolLaws.{not-both}
+use Rattle.fold.proofs.BoolLaws.{not-both}
 use Rattle.answers.specs.declared.Tested.{Tested}
 use Rattle.answers.specs.declared.Tested.the-variants.{Passed, Refused}
 use Rattle.layout.specs.Card.{cardRowAt}
@@ -17,17 +17,17 @@ use Rattle.rows.specs.InRange.{Feeds}
 use Rattle.rows.specs.Tests.{rowsTest}
 use Rattle.rows.proofs.InRangeLaws.{passed-in-range, passed-feeds}
 use Rattle.settle.proofs.SameLaws.{settled-same}
-use Rattle.whole.specs.Whole.{calculation}
-use Rattle.whole.proofs.FrameLaws.{calculation-keeps}
+use Rattle.calculate.specs.Whole.{calculation}
+use Rattle.calculate.proofs.FrameLaws.{calculation-keeps}
 use Rattle.path.specs.Path.{onPath}
-use Rattle.edit.specs.Edit.{putList}
+use Rattle.change.specs.Edit.{putList}
 use Rattle.change.specs.Replace.{onPassed, reworked}
 use Rattle.path.specs.CardTest.{cardTest}
 use Rattle.change.proofs.AcceptLaws.{Accepts, settled-fits, accepted-room, accepted-length, rows-settled}
 use Rattle.change.proofs.EditedLaws.{edited-rows, edited-is-row, edited-row, edited-feeder}
 use Rattle.path.proofs.PathLaws.{on-self}
 use Rattle.change.proofs.SkipLaws.{Rests, fed-off, calculation-path, calculation-same}
-use Rattle.edit.proofs.TestLaws.{EditFits}
+use Rattle.change.proofs.EditLaws.{EditFits}
 use Rattle.path.proofs.CardTestLaws.{fits-pass}
 
 module _ (l c₀ c : List ℕ) (x : Accepts l c₀ c) (place : ℕ) (row : List ℕ) (f : EditFits l place row) where

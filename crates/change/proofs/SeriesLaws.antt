@@ -8,7 +8,7 @@ use Prim.Native.Nat.{ℕ, _-_, _*_}
 use native.Mathlib.Omega.{arith}
 use lib.ListN.{length, replicate, length-replicate}
 use Rattle.layout.specs.Counts.{columnCount}
-use Rattle.grid.proofs.BoolLaws.{passes-or-fails, not-both}
+use Rattle.fold.proofs.BoolLaws.{passes-or-fails, not-both}
 use Rattle.answers.specs.declared.Answer.{Answer}
 use Rattle.answers.specs.declared.Answer.the-variants.{Done, Edit}
 use Rattle.answers.specs.declared.Tested.{Tested}
@@ -17,17 +17,17 @@ use Rattle.layout.specs.List.{rows}
 use Rattle.rows.specs.Tests.{sizeTest, rowsTest}
 use Rattle.rows.proofs.InRangeLaws.{passed-feeds}
 use Rattle.rows.proofs.TestLaws.{size-passed, size-right}
-use Rattle.work.specs.WorkOut.{Worked, finished, refused}
-use Rattle.whole.specs.Whole.{Result, ending, calculation, whole}
-use Rattle.whole.proofs.FrameLaws.{framed, calculation-frame}
-use Rattle.edit.specs.Edit.{putList, editRight}
+use Rattle.rowwise.specs.WorkOut.{Worked, finished, refused}
+use Rattle.calculate.specs.Whole.{Result, ending, calculation, whole}
+use Rattle.calculate.proofs.FrameLaws.{framed, calculation-frame}
+use Rattle.change.specs.Edit.{putList, editRight}
 use Rattle.change.specs.Replace.{onPassed, reworked, Replaced, outcome, replaced}
 use Rattle.change.specs.Series.{Entry, calculated, kept, entered}
 use Rattle.change.proofs.AcceptLaws.{whole-as, calculation-later, Accepts, accepts, accepted-length}
 use Rattle.change.proofs.EditedLaws.{edited-length}
 use Rattle.change.proofs.RefusalLaws.{Refuses}
 use Rattle.change.proofs.ReworkLaws.{reworked-whole}
-use Rattle.edit.proofs.TestLaws.{EditFits, edit-fits, fits-edit, edit-passes, edit-refuses}
+use Rattle.change.proofs.EditLaws.{EditFits, edit-fits, fits-edit, edit-passes, edit-refuses}
 
 -- the answer of the whole calculation does not depend on the card, where it has room
 answer-same :

@@ -10,7 +10,7 @@ use native.Mathlib.Omega.{arith}
 use lib.Dec.{eqb}
 use lib.ListN.{length, take, drop, take-append-drop}
 use borrow.Author.Tests.{eqb-true, eqb-false, ne-eqb}
-use Rattle.grid.proofs.BoolLaws.{passes-or-fails, not-both, fails}
+use Rattle.fold.proofs.BoolLaws.{passes-or-fails, not-both, fails}
 use Rattle.layout.specs.declared.CardRow.{CardRow}
 use Rattle.layout.specs.Card.{cardRowAt, putCardRow}
 use Rattle.layout.specs.Counts.{columnCount}
@@ -24,10 +24,10 @@ use Rattle.settle.specs.declared.Settled.the-variants.{Set, Unset}
 use Rattle.settle.specs.Conditions.{fed}
 use Rattle.settle.specs.Settle.{shown, settled}
 use Rattle.settle.proofs.SameLaws.{settled-same}
-use Rattle.work.specs.WorkOut.{Worked, finished, refused, onSettled, workOut, upFrom}
-use Rattle.whole.specs.Whole.{calculation}
-use Rattle.whole.proofs.FrameLaws.{framed, calculation-frame, calculation-keeps}
-use Rattle.whole.proofs.SettledLaws.{Settles}
+use Rattle.rowwise.specs.WorkOut.{Worked, finished, refused, onSettled, workOut, upFrom}
+use Rattle.calculate.specs.Whole.{calculation}
+use Rattle.calculate.proofs.FrameLaws.{framed, calculation-frame, calculation-keeps}
+use Rattle.calculate.proofs.SettledLaws.{Settles}
 use Rattle.path.specs.Path.{pathOf, onPath}
 use Rattle.path.proofs.PathLaws.{fed-climbs, source-last, path-source, path-fed, on-fed, on-self, on-feeder, off-below}
 

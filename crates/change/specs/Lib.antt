@@ -1,3 +1,4 @@
+pub mod Edit
 pub mod Ready
 pub mod Replace
 pub mod Series

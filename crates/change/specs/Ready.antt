@@ -7,7 +7,7 @@ use Rattle.layout.specs.Counts.{fieldCount}
 use Rattle.answers.specs.declared.Answer.{Answer}
 use Rattle.answers.specs.Answer.{givenBy}
 use Rattle.path.specs.Ready.{ReworkReady}
-use Rattle.edit.specs.Edit.{putList}
+use Rattle.change.specs.Edit.{putList}
 use Rattle.change.specs.Replace.{reworked, outcome, Replaced}
 
 pub record ExchangeReady (l : List ℕ) (i : ℕ) (c row : List ℕ) : Type 0 where

@@ -9,8 +9,8 @@ use Rattle.answers.specs.declared.Answer.the-variants.{Done}
 use Rattle.answers.specs.declared.Tested.{Tested}
 use Rattle.answers.specs.declared.Tested.the-variants.{Passed, Refused}
 use Rattle.rows.specs.Tests.{sizeTest, rowsTest}
-use Rattle.work.specs.WorkOut.{Worked, finished, refused, workOut}
-use Rattle.edit.specs.Edit.{putList, editTest}
+use Rattle.rowwise.specs.WorkOut.{Worked, finished, refused, workOut}
+use Rattle.change.specs.Edit.{putList, editTest}
 use Rattle.path.specs.Path.{pathOf}
 use Rattle.path.specs.CardTest.{cardTest}
 

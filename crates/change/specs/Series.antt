@@ -9,8 +9,8 @@ use Rattle.answers.specs.declared.Answer.{Answer}
 use Rattle.answers.specs.declared.Answer.the-variants.{Edit}
 use Rattle.answers.specs.Answer.{givenBy, numberOf}
 use Rattle.layout.specs.List.{rows}
-use Rattle.whole.specs.Whole.{whole}
-use Rattle.edit.specs.Edit.{putList, editRight}
+use Rattle.calculate.specs.Whole.{whole}
+use Rattle.change.specs.Edit.{putList, editRight}
 use Rattle.change.specs.Replace.{replaced}
 
 -- a place and the new row for it

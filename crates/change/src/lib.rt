@@ -1,4 +1,6 @@
 // The replacement of one row of a lent list, on a lent card [01 §4].
+mod edit;
+
 use answers::Answer;
 use answers::NUMBERS;
 use answers::Tested;

@@ -10,8 +10,8 @@ use lib.Dec.{eqb}
 use lib.ListN.{length, take, drop, getD, drop-of-length-le, length-drop}
 use lib.Seq.{drop-drop, take-all, take-nil}
 use borrow.Author.Tests.{eq-eqb, ne-eqb}
-use Rattle.grid.specs.declared.Found.{Found}
-use Rattle.grid.specs.declared.Found.the-variants.{At, Nothing}
+use Rattle.fold.specs.declared.Found.{Found}
+use Rattle.fold.specs.declared.Found.the-variants.{At, Nothing}
 use Rattle.alphabet.specs.declared.Class.the-variants.{Bare}
 use Rattle.cursor.specs.declared.Cursor.{Cursor}
 use Rattle.cursor.specs.declared.NameRead.the-variants.{Name, NoName}

@@ -9,7 +9,7 @@ use lib.Dec.{leb}
 use lib.ListN.{length, take, drop, getD, length-drop}
 use lib.Seq.{drop-drop, getD-drop}
 use borrow.Author.Tests.{le-leb, lt-leb, eq-eqb, ne-eqb, leb-true}
-use Rattle.grid.proofs.BoolLaws.{and-left, and-right}
+use Rattle.fold.proofs.BoolLaws.{and-left, and-right}
 use Rattle.alphabet.specs.declared.Class.the-variants.{Digit}
 use Rattle.cursor.specs.declared.Cursor.{Cursor}
 use Rattle.cursor.specs.declared.NumberRead.the-variants.{Number, NoNumber}

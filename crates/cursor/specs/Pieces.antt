@@ -4,8 +4,8 @@ use mathlib.Core.List.{List, [], _∷_}
 use Prim.Native.Nat.{ℕ, _+_, _-_, _*_}
 use lib.Dec.{leb, eqb}
 use lib.ListN.{getD, take, drop}
-use Rattle.grid.specs.declared.Found.{Found}
-use Rattle.grid.specs.declared.Found.the-variants.{At, Nothing}
+use Rattle.fold.specs.declared.Found.{Found}
+use Rattle.fold.specs.declared.Found.the-variants.{At, Nothing}
 use Rattle.alphabet.specs.declared.Class.the-variants.{Digit, Bare}
 use Rattle.cursor.specs.declared.Cursor.{Cursor}
 use Rattle.cursor.specs.declared.NumberRead.{NumberRead}

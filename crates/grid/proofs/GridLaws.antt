@@ -7,12 +7,12 @@ use native.Mathlib.Nat.{le-div-iff-mul-le, suc-mul, mul-le-mul-right, div-zero, 
 use native.Mathlib.Omega.{arith}
 use lib.Dec.{leb}
 use borrow.Author.Tests.{leb-true, leb-false, le-leb}
-use Rattle.grid.specs.declared.Found.{Found}
-use Rattle.grid.specs.declared.Found.the-variants.{At, Nothing}
-use Rattle.grid.specs.First.{first}
+use Rattle.fold.specs.declared.Found.{Found}
+use Rattle.fold.specs.declared.Found.the-variants.{At, Nothing}
+use Rattle.fold.specs.First.{first}
 use Rattle.grid.specs.Grid.{Available, count, valueAt, leastOn}
-use Rattle.grid.proofs.BoolLaws.{passes-or-fails, lt-or-le, not-both, fails, and-left, and-right, and-both, zero-not-one}
-use Rattle.grid.proofs.FirstLaws.{first-at, first-nothing}
+use Rattle.fold.proofs.BoolLaws.{passes-or-fails, lt-or-le, not-both, fails, and-left, and-right, and-both, zero-not-one}
+use Rattle.fold.proofs.FirstLaws.{first-at, first-nothing}
 
 -- m steps are available exactly where they end at or below high
 pub count-within : (low high step m : ℕ) → 0 < step → m < count low high step → low + m * step ≤ high

@@ -1,5 +1,2 @@
-pub mod BoolLaws
-pub mod FirstLaws
-pub mod FoldLaws
 pub mod GridLaws
 pub mod RoundLaws

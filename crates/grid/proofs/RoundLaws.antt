@@ -4,7 +4,7 @@ use Prim.Native.Nat.{ℕ, _+_, _-_, _*_, _/_, _%_, _≤_, _<_, max}
 use lib.Dec.{leb}
 use mathlib.Core.Bool.{_&&_}
 use borrow.Author.Tests.{le-leb, leb-true}
-use Rattle.grid.proofs.BoolLaws.{same-test, and-left, and-right, and-both}
+use Rattle.fold.proofs.BoolLaws.{same-test, and-left, and-right, and-both}
 use native.Mathlib.Nat.{le-trans, le-max-left, le-max-right, max-le, le-mul-of-pos-right, pos-of-ne-zero, div-add-mod', mod-lt, div-lt-iff-lt-mul}
 use native.Mathlib.Nat.{add-mul, one-mul, le-of-suc-le-suc, suc-mul, div-zero, div-eq-of-lt-le, mul-le-mul-right}
 use native.Mathlib.Omega.{arith}

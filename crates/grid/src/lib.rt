@@ -1,15 +1,10 @@
 // Leaf arithmetic: the least available value of a grid low, low + step, .. up to high.
+use fold::Found;
 ghost use mathlib.Core.Path.{_≡_};
 ghost use Prim.Native.Nat.{max};
 ghost use lib.Dec.{leb};
 ghost use Rattle.grid.specs.Grid.{leastOn};
 ghost use Rattle.grid.specs.Round.{ceilDiv};
-
-// What a search gives.
-pub enum Found {
-    At(u64),
-    Nothing,
-}
 
 // The greater of two numbers.
 pub fn greater(a: u64, b: u64) -> u64

@@ -6,7 +6,7 @@ use Prim.Native.Nat.{ℕ, zero, suc, _+_, _*_, _≤_, _<_}
 use native.Mathlib.Omega.{arith}
 use lib.ListN.{length, getD, take, drop}
 use lib.Seq.{length-sets}
-use Rattle.copy.proofs.BlockLaws.{sets-before, sets-behind, sets-stands, sets-is, block-own, block-other, drop-sets, blocks-agree}
+use Rattle.blocks.proofs.BlockLaws.{sets-before, sets-behind, sets-stands, sets-is, block-own, block-other, drop-sets, blocks-agree}
 use Rattle.layout.specs.declared.CardRow.{CardRow}
 use Rattle.layout.specs.Counts.{columnCount}
 use Rattle.layout.specs.Card.{column, cardRowAt, columnsOf, putCardRow}

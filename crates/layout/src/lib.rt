@@ -1,6 +1,6 @@
 // The layout of a list and of a card lent as numbers: counts, tables of bounds, rows [01 §2, §4].
 // Rows, fields and columns are counted from 0 here: index i is row number i + 1, index k is field number k + 1.
-use copy::put;
+use blocks::put;
 ghost use mathlib.Core.Path.{_≡_};
 ghost use Prim.Native.Nat.{_+_, _*_, _<_, _≤_};
 ghost use lib.ListN.{length};

@@ -6,13 +6,13 @@ use Prim.Native.Nat.{ℕ, zero, suc, _+_, _≤_, _<_}
 use native.Mathlib.Omega.{arith}
 use lib.Dec.{leb}
 use borrow.Author.Tests.{leb-true, le-leb, not-false}
-use Rattle.grid.specs.declared.Found.{Found}
-use Rattle.grid.specs.declared.Found.the-variants.{At, Nothing}
-use Rattle.grid.specs.First.{first}
-use Rattle.grid.specs.Fold.{every}
-use Rattle.grid.proofs.BoolLaws.{and-left, and-right, and-both}
-use Rattle.grid.proofs.FirstLaws.{first-none, first-nothing}
-use Rattle.grid.proofs.FoldLaws.{every-at, every-of, every-more, every-fails}
+use Rattle.fold.specs.declared.Found.{Found}
+use Rattle.fold.specs.declared.Found.the-variants.{At, Nothing}
+use Rattle.fold.specs.First.{first}
+use Rattle.fold.specs.Fold.{every}
+use Rattle.fold.proofs.BoolLaws.{and-left, and-right, and-both}
+use Rattle.fold.proofs.FirstLaws.{first-none, first-nothing}
+use Rattle.fold.proofs.FoldLaws.{every-at, every-of, every-more, every-fails}
 use Rattle.answers.specs.declared.Answer.{Answer}
 use Rattle.answers.specs.declared.Answer.the-variants.{Card}
 use Rattle.answers.specs.declared.Tested.the-variants.{Passed, Refused}
@@ -20,7 +20,7 @@ use Rattle.layout.specs.Card.{column, cardRowAt, columnBounds}
 use Rattle.layout.specs.Counts.{columnCount}
 use Rattle.layout.specs.Fields.{leastIn, greatestIn, inBounds}
 use Rattle.layout.specs.List.{rows}
-use Rattle.work.proofs.EndLaws.{never-passed}
+use Rattle.rowwise.proofs.EndLaws.{never-passed}
 use Rattle.path.specs.CardTest.{columnRight, cardRight, cardAnswer, cardTest}
 
 -- what CARD asks of a card row

@@ -8,7 +8,7 @@ use Prim.Native.Nat.{ℕ, _-_, _≤_, _<_}
 use native.Mathlib.Omega.{arith}
 use lib.Dec.{eqb}
 use borrow.Author.Tests.{eqb-true, eqb-false, eq-eqb, ne-eqb}
-use Rattle.grid.proofs.BoolLaws.{passes-or-fails}
+use Rattle.fold.proofs.BoolLaws.{passes-or-fails}
 use Rattle.answers.specs.declared.Answer.{Answer}
 use Rattle.answers.specs.declared.Tested.{Tested}
 use Rattle.answers.specs.declared.Tested.the-variants.{Passed, Refused}
@@ -23,11 +23,11 @@ use Rattle.settle.specs.declared.Settled.the-variants.{Set, Unset}
 use Rattle.settle.specs.Fed.{settledBy, CardBounded}
 use Rattle.settle.specs.Settle.{shown, settled}
 use Rattle.settle.proofs.SameLaws.{fed-below}
-use Rattle.work.specs.Ready.{WorkReady, Stepped}
-use Rattle.work.specs.Sums.{fedAt, pushed, stepBy, step}
-use Rattle.work.specs.WorkOut.{Worked, onSettled, workOut}
-use Rattle.work.proofs.EndLaws.{never-passed}
-use Rattle.work.proofs.WorkingLaws.{work-ready, work-settles, settled-to, work-next}
+use Rattle.rowwise.specs.Ready.{WorkReady, Stepped}
+use Rattle.rowwise.specs.Sums.{fedAt, pushed, stepBy, step}
+use Rattle.rowwise.specs.WorkOut.{Worked, onSettled, workOut}
+use Rattle.rowwise.proofs.EndLaws.{never-passed}
+use Rattle.rowwise.proofs.WorkingLaws.{work-ready, work-settles, settled-to, work-next}
 use Rattle.path.specs.Path.{pathOf, onPath}
 use Rattle.path.specs.Ready.{ClimbReady, testedOf, cardOf, Reworked}
 use Rattle.path.proofs.PathLaws.{fed-climbs, path-source, path-fed, on-fed, on-self, on-feeder, off-below}

@@ -5,8 +5,8 @@ use Prim.Native.Nat.{ℕ}
 use Rattle.answers.specs.declared.Answer.{Answer}
 use Rattle.answers.specs.declared.Tested.{Tested}
 use Rattle.answers.specs.declared.Tested.the-variants.{Passed, Refused}
-use Rattle.work.specs.WorkOut.{Worked, finished, refused}
-use Rattle.work.proofs.EndLaws.{never-passed, same-answer}
+use Rattle.rowwise.specs.WorkOut.{Worked, finished, refused}
+use Rattle.rowwise.proofs.EndLaws.{never-passed, same-answer}
 use Rattle.path.specs.Ready.{testedOf, cardOf, Reworked}
 
 -- worked out on the card c′

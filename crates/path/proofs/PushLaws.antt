@@ -4,17 +4,17 @@ use mathlib.Core.Bool.{Bool, true, false, _||_}
 use mathlib.Core.List.{List}
 use Prim.Native.Nat.{ℕ, _-_, _≤_, _<_}
 use lib.Dec.{eqb}
-use Rattle.grid.proofs.FoldLaws.{sumTo-same, maxTo-same}
+use Rattle.fold.proofs.FoldLaws.{sumTo-same, maxTo-same}
 use Rattle.layout.specs.Card.{cardRowAt}
 use Rattle.layout.specs.List.{rows, rowAt}
 use Rattle.layout.proofs.CardLaws.{putCardRow-stands}
 use Rattle.rows.proofs.InRangeLaws.{row-bounded}
 use Rattle.settle.specs.Fed.{CardBounded}
-use Rattle.work.specs.Ready.{PushReady}
-use Rattle.work.specs.Sums.{pushed}
-use Rattle.work.specs.Working.{Working}
-use Rattle.work.proofs.SumsLaws.{same-fed}
-use Rattle.work.proofs.WorkingLaws.{has-feeder, work-next}
+use Rattle.rowwise.specs.Ready.{PushReady}
+use Rattle.rowwise.specs.Sums.{pushed}
+use Rattle.rowwise.specs.Working.{Working}
+use Rattle.rowwise.proofs.SumsLaws.{same-fed}
+use Rattle.rowwise.proofs.WorkingLaws.{has-feeder, work-next}
 
 -- the same rows done, and no more that matter
 pub working-same :

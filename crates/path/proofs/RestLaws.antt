@@ -8,16 +8,16 @@ use native.Mathlib.Omega.{arith}
 use lib.Dec.{ltb, eqb}
 use lib.ListN.{length}
 use borrow.Author.Tests.{lt-ltb, le-ltb, ltb-true, eqb-true, eqb-false, eq-eqb}
-use Rattle.grid.proofs.BoolLaws.{passes-or-fails, same-test}
+use Rattle.fold.proofs.BoolLaws.{passes-or-fails, same-test}
 use Rattle.layout.specs.Card.{cardRowAt}
 use Rattle.layout.specs.List.{rows, rowAt}
 use Rattle.rows.specs.InRange.{Feeds}
 use Rattle.rows.proofs.InRangeLaws.{passed-feeds}
 use Rattle.settle.specs.Fed.{CardBounded}
-use Rattle.work.specs.Sums.{pushed}
-use Rattle.work.proofs.StepLaws.{pushed-length}
-use Rattle.work.specs.Working.{Working}
-use Rattle.work.proofs.StartLaws.{work-start}
+use Rattle.rowwise.specs.Sums.{pushed}
+use Rattle.rowwise.proofs.StepLaws.{pushed-length}
+use Rattle.rowwise.specs.Working.{Working}
+use Rattle.rowwise.proofs.StartLaws.{work-start}
 use Rattle.path.specs.Path.{aboveOf, onPath}
 use Rattle.path.specs.Ready.{FoundReady, RestReady}
 use Rattle.path.proofs.PathLaws.{onFrom, on-from, on-next, on-self, off-before, above-above}

@@ -10,9 +10,9 @@ use Rattle.layout.specs.Card.{cardRowAt}
 use Rattle.layout.specs.Counts.{fieldCount, columnCount, rowsMost}
 use Rattle.layout.specs.List.{rows, rowAt}
 use Rattle.rows.specs.Tests.{rowsTest}
-use Rattle.work.specs.Ready.{PushReady}
-use Rattle.work.specs.WorkOut.{Worked, finished, refused}
-use Rattle.work.specs.Working.{Unworked, Working}
+use Rattle.rowwise.specs.Ready.{PushReady}
+use Rattle.rowwise.specs.WorkOut.{Worked, finished, refused}
+use Rattle.rowwise.specs.Working.{Unworked, Working}
 use Rattle.path.specs.Path.{onPath}
 use Rattle.path.specs.CardTest.{cardTest}
 

@@ -5,7 +5,7 @@ use Prim.Native.Nat.{ℕ, suc, _+_, _-_, _*_, _≤_, _<_}
 use native.Mathlib.Omega.{arith}
 use lib.ListN.{length, take, drop, getD, length-append, length-take}
 use lib.Seq.{drop-drop, getD-drop}
-use Rattle.grid.proofs.FoldLaws.{every-at}
+use Rattle.fold.proofs.FoldLaws.{every-at}
 use Rattle.cursor.specs.Pieces.{nameMost}
 use Rattle.cursor.specs.Names.{nameAtPlace, namesAt}
 use Rattle.print.specs.Write.{Wrote}

@@ -9,7 +9,7 @@ use native.Mathlib.Omega.{arith}
 use lib.Dec.{ltb, lit≤}
 use lib.ListN.{length, length-append}
 use borrow.Author.Tests.{lt-ltb, le-ltb}
-use Rattle.grid.proofs.BoolLaws.{passes-or-fails, lt-or-le}
+use Rattle.fold.proofs.BoolLaws.{passes-or-fails, lt-or-le}
 use Rattle.cursor.specs.Pieces.{decimal}
 use Rattle.print.specs.Write.{lastDigit, lastDigits, digitsMost, numberText}
 

@@ -9,9 +9,9 @@ use lib.Dec.{leb}
 use lib.ListN.{length, take, drop, getD, length-take}
 use lib.Seq.{getD-drop}
 use borrow.Author.Tests.{le-leb, lt-leb, leb-true}
-use Rattle.grid.specs.Fold.{every}
-use Rattle.grid.proofs.BoolLaws.{and-left, and-right, not-both, fails}
-use Rattle.grid.proofs.FoldLaws.{every-at}
+use Rattle.fold.specs.Fold.{every}
+use Rattle.fold.proofs.BoolLaws.{and-left, and-right, not-both, fails}
+use Rattle.fold.proofs.FoldLaws.{every-at}
 use Rattle.cursor.specs.Pieces.{nameMost}
 use Rattle.cursor.specs.Names.{nameAtPlace}
 use Rattle.print.specs.Card.{cardCount, headerSize, lineMost, placeRight, printable, RowsFit}

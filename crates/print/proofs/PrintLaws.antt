@@ -9,7 +9,7 @@ use native.Mathlib.Omega.{arith}
 use lib.ListN.{length, drop, getD, length-append}
 use lib.Seq.{drop-drop, take-append-seam}
 use borrow.Author.Tests.{le-leb, lt-leb}
-use Rattle.grid.proofs.FoldLaws.{every-at}
+use Rattle.fold.proofs.FoldLaws.{every-at}
 use Rattle.answers.specs.Answer.{numberCount}
 use Rattle.cursor.specs.Pieces.{nameMost}
 use Rattle.cursor.specs.Names.{nameAtPlace, namesAt}

@@ -6,7 +6,7 @@ use Prim.Native.Nat.{ℕ, zero, suc, _+_, _-_, _*_, _/_, _≤_}
 use lib.Dec.{leb}
 use lib.ListN.{length, getD, take, drop}
 use Rattle.answers.specs.Answer.{numberCount}
-use Rattle.grid.specs.Fold.{every}
+use Rattle.fold.specs.Fold.{every}
 use Rattle.cursor.specs.Pieces.{nameMost}
 use Rattle.cursor.specs.Names.{namesAt}
 use Rattle.print.specs.Write.{digitsMost, numberText, written}

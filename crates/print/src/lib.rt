@@ -11,7 +11,7 @@ use write::put_number;
 ghost use mathlib.Core.Path.{_≡_};
 ghost use Prim.Native.Nat.{_+_, _*_, _≤_};
 ghost use lib.ListN.{length, drop};
-ghost use Rattle.grid.specs.Fold.{every};
+ghost use Rattle.fold.specs.Fold.{every};
 ghost use Rattle.cursor.specs.Names.{nameAtPlace, namesAt};
 ghost use Rattle.print.specs.Write.{Wrote};
 ghost use Rattle.print.specs.Card.{cardCount, lineText, rowsText, placeRight, printable, RowFits, RowsFit, Printed, cardPrinted, refusalPrinted};

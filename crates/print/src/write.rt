@@ -1,5 +1,5 @@
 // Writing bytes, numbers and lines into a buffer, each from a place on; the answer is the place behind.
-use copy::put_bytes;
+use blocks::put_bytes;
 ghost use mathlib.Core.Path.{_≡_};
 ghost use mathlib.Core.List.{[], _∷_};
 ghost use Prim.Native.Nat.{_+_, _*_, _≤_};

@@ -5,7 +5,7 @@ use mathlib.Core.List.{List}
 use Prim.Native.Nat.{ℕ, _+_, _≤_}
 use lib.Dec.{leb, eqb}
 use borrow.Author.Tests.{eq-eqb, ne-eqb, leb-true}
-use Rattle.grid.proofs.BoolLaws.{and-left, and-right}
+use Rattle.fold.proofs.BoolLaws.{and-left, and-right}
 use Rattle.layout.specs.Fields.{bounds, leastIn, greatestIn, inBounds}
 use Rattle.layout.specs.List.{field}
 use Rattle.rows.specs.Tests.{fieldRight}

@@ -7,10 +7,10 @@ use native.Mathlib.Omega.{arith}
 use lib.Dec.{leb, ltb, eqb}
 use borrow.Author.Tests.{eqb-true, ltb-true, leb-true, not-false, ne-eqb, eq-eqb, le-leb}
 use Rattle.layout.specs.Counts.{fieldCount}
-use Rattle.grid.specs.declared.Found.{Found}
-use Rattle.grid.specs.declared.Found.the-variants.{At, Nothing}
-use Rattle.grid.proofs.BoolLaws.{and-left, and-right, zero-not-one}
-use Rattle.grid.proofs.FirstLaws.{first-none, first-nothing}
+use Rattle.fold.specs.declared.Found.{Found}
+use Rattle.fold.specs.declared.Found.the-variants.{At, Nothing}
+use Rattle.fold.proofs.BoolLaws.{and-left, and-right, zero-not-one}
+use Rattle.fold.proofs.FirstLaws.{first-none, first-nothing}
 use Rattle.answers.specs.declared.Tested.{Tested}
 use Rattle.answers.specs.declared.Tested.the-variants.{Passed}
 use Rattle.layout.specs.Fields.{atFeeder, atKind, atLow, atHigh, bounds, leastIn, greatestIn}

@@ -5,11 +5,11 @@ use mathlib.Core.List.{List}
 use Prim.Native.Nat.{ℕ, _+_, _-_, _*_, _/_, _%_, _≤_, _<_}
 use lib.Dec.{leb, eqb}
 use Rattle.layout.specs.Counts.{fieldCount, columnCount, listMost}
-use Rattle.grid.proofs.BoolLaws.{and-left, and-right, zero-not-one}
+use Rattle.fold.proofs.BoolLaws.{and-left, and-right, zero-not-one}
 use borrow.Author.Tests.{eqb-true, leb-true, le-leb, lt-leb, lt-ltb, le-ltb, eq-eqb, ne-eqb}
-use Rattle.grid.specs.declared.Found.{Found}
-use Rattle.grid.specs.declared.Found.the-variants.{At, Nothing}
-use Rattle.grid.specs.First.{first}
+use Rattle.fold.specs.declared.Found.{Found}
+use Rattle.fold.specs.declared.Found.the-variants.{At, Nothing}
+use Rattle.fold.specs.First.{first}
 use Rattle.answers.specs.declared.Answer.{Answer}
 use Rattle.answers.specs.declared.Answer.the-variants.{Count, Room, Field, Tree}
 use Rattle.answers.specs.declared.Tested.{Tested}

@@ -2,7 +2,7 @@
 // Rows and fields are counted from 0 here: index i is row number i + 1, index k is field number k + 1.
 use answers::Answer;
 use answers::Tested;
-use grid::Found;
+use fold::Found;
 use layout::AT_FEEDER;
 use layout::AT_HIGH;
 use layout::AT_KIND;
@@ -18,7 +18,7 @@ ghost use Prim.Native.Nat.{_+_, _*_, _<_, _≤_};
 ghost use lib.ListN.{length};
 ghost use Rattle.layout.specs.Counts.{fieldCount};
 ghost use Rattle.layout.specs.Fields.{bounds};
-ghost use Rattle.grid.specs.First.{first};
+ghost use Rattle.fold.specs.First.{first};
 ghost use Rattle.layout.specs.List.{field, rows};
 ghost use Rattle.rows.specs.Tests.{fieldRight, rowFault, feedsRight, fedWrongly, sizeTest, treeTest, fieldsTest, rowsTest};
 

@@ -7,9 +7,9 @@ use native.Mathlib.Nat.{mul-le-mul, mul-le-mul-left, mul-assoc, le-trans}
 use native.Mathlib.Omega.{arith}
 use lib.Dec.{leb, eqb}
 use borrow.Author.Tests.{le-leb, leb-true, eq-eqb, ne-eqb}
-use Rattle.grid.specs.Fold.{maxTo}
-use Rattle.grid.proofs.BoolLaws.{passes-or-fails, implies, implied, same-test}
-use Rattle.grid.proofs.FoldLaws.{Attained, maxTo-attained, le-maxTo, sumTo-zero, sumTo-others, every-at, every-of}
+use Rattle.fold.specs.Fold.{maxTo}
+use Rattle.fold.proofs.BoolLaws.{passes-or-fails, implies, implied, same-test}
+use Rattle.fold.proofs.FoldLaws.{Attained, maxTo-attained, le-maxTo, sumTo-zero, sumTo-others, every-at, every-of}
 use Rattle.grid.proofs.GridLaws.{leastOn-same}
 use Rattle.layout.specs.View.{View, Settings}
 use Rattle.rows.specs.InRange.{AllBounded}

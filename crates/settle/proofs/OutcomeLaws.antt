@@ -6,10 +6,10 @@ use native.Mathlib.Nat.{mul-comm, le-trans}
 use native.Mathlib.Omega.{arith}
 use lib.Dec.{leb, eqb}
 use borrow.Author.Tests.{eq-eqb, ne-eqb}
-use Rattle.grid.proofs.BoolLaws.{zero-not-one}
+use Rattle.fold.proofs.BoolLaws.{zero-not-one}
 use Rattle.answers.specs.declared.Reason.the-variants.{Pickup, Delay}
-use Rattle.grid.specs.declared.Found.{Found}
-use Rattle.grid.specs.declared.Found.the-variants.{At, Nothing}
+use Rattle.fold.specs.declared.Found.{Found}
+use Rattle.fold.specs.declared.Found.the-variants.{At, Nothing}
 use Rattle.grid.specs.Round.{ceilDiv}
 use Rattle.grid.proofs.RoundLaws.{ceilDiv-leb}
 use Rattle.grid.proofs.GridLaws.{leastOn-same, leastOn-least}

@@ -6,10 +6,10 @@ use native.Mathlib.Nat.{mul-le-mul, mul-le-mul-left, mul-le-mul-right, mul-assoc
 use native.Mathlib.Omega.{arith}
 use lib.Dec.{leb, eqb}
 use borrow.Author.Tests.{le-leb, lt-leb, leb-true}
-use Rattle.grid.specs.declared.Found.{Found}
-use Rattle.grid.specs.declared.Found.the-variants.{At, Nothing}
+use Rattle.fold.specs.declared.Found.{Found}
+use Rattle.fold.specs.declared.Found.the-variants.{At, Nothing}
 use Rattle.grid.specs.Round.{ceilDiv}
-use Rattle.grid.proofs.BoolLaws.{and-left, and-right, and-both}
+use Rattle.fold.proofs.BoolLaws.{and-left, and-right, and-both}
 use Rattle.grid.proofs.GridLaws.{capped, leastOn-capped, leastOn-same, leastOn-least}
 use Rattle.grid.proofs.RoundLaws.{ceilDiv-leb, max-leb}
 use Rattle.layout.specs.declared.Row.{Row}

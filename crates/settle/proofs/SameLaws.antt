@@ -8,9 +8,9 @@ use Prim.Native.Nat.{ℕ, _+_, _*_, _<_}
 use native.Mathlib.Omega.{arith}
 use lib.Dec.{leb, eqb}
 use borrow.Author.Tests.{eqb-true, eqb-false}
-use Rattle.grid.specs.Fold.{sumTo, every}
-use Rattle.grid.proofs.BoolLaws.{passes-or-fails, and-left}
-use Rattle.grid.proofs.FoldLaws.{sumTo-same, every-same}
+use Rattle.fold.specs.Fold.{sumTo, every}
+use Rattle.fold.proofs.BoolLaws.{passes-or-fails, and-left}
+use Rattle.fold.proofs.FoldLaws.{sumTo-same, every-same}
 use Rattle.layout.specs.declared.Row.{Row}
 use Rattle.layout.specs.Fields.{atFeeder}
 use Rattle.layout.specs.List.{rows, field}

@@ -1,6 +1,6 @@
 // Section 3 of the scope: one row's least settings, from its fields and what the rows that it feeds ask of it.
 use answers::Reason;
-use grid::Found;
+use fold::Found;
 use grid::ceil_div;
 use grid::greater;
 use grid::least_on;

@@ -11,7 +11,7 @@ use lib.Dec.{eqb, ltb}
 use lib.ListN.{length, getD, take, drop, length-append, length-drop, drop-of-length-le}
 use lib.Seq.{drop-drop, length-take-le, take-take}
 use borrow.Author.Tests.{eqb-true, ltb-true, ltb-false}
-use Rattle.grid.proofs.BoolLaws.{and-left, and-right, passes-or-fails}
+use Rattle.fold.proofs.BoolLaws.{and-left, and-right, passes-or-fails}
 use Rattle.alphabet.specs.declared.Class.the-variants.{InLine}
 use Rattle.alphabet.specs.Bytes.{passes, run}
 use Rattle.cursor.specs.Pieces.{digits, isNumber, isName, nameLength, isComma}

@@ -8,7 +8,7 @@ use native.Mathlib.Omega.{arith}
 use lib.Dec.{ltb}
 use lib.ListN.{length}
 use borrow.Author.Tests.{le-leb, ltb-true, ltb-false}
-use Rattle.grid.proofs.BoolLaws.{passes-or-fails}
+use Rattle.fold.proofs.BoolLaws.{passes-or-fails}
 use Rattle.answers.specs.declared.Answer.the-variants as answer
 use Rattle.answers.specs.Answer.{givenBy}
 use Rattle.text.specs.declared.Reading.{Reading}
@@ -16,7 +16,7 @@ use Rattle.text.specs.declared.Reading.the-variants.{BadLine, Rows}
 use Rattle.text.specs.Text.{reading, rowNumbers, rowPlaces}
 use Rattle.print.specs.Card.{cardText}
 use Rattle.print.proofs.PrintLaws.{refusal-short, card-short}
-use Rattle.whole.specs.Whole.{whole}
+use Rattle.calculate.specs.Whole.{whole}
 use Rattle.sheet.specs.Sheet.{namesOf, blankCard, done, Sheet, refusedWith, sheetWith, sheetBy, sheetOf, fitted, sheetMost}
 use Rattle.sheet.proofs.PlaceLaws.{rows-stand}
 use Rattle.sheet.proofs.SheetLaws.{many-count}

@@ -8,8 +8,8 @@ use native.Mathlib.Omega.{arith}
 use lib.ListN.{length, getD, take, drop, List·getD-append}
 use lib.Seq.{paste, take-all, take-at, drop-append-le, length-take-le}
 use borrow.Author.Tests.{le-leb, lt-leb, eq-eqb, ne-eqb}
-use Rattle.grid.proofs.BoolLaws.{and-both}
-use Rattle.grid.proofs.FoldLaws.{every-of}
+use Rattle.fold.proofs.BoolLaws.{and-both}
+use Rattle.fold.proofs.FoldLaws.{every-of}
 use Rattle.answers.specs.declared.Answer.the-variants as answer
 use Rattle.answers.specs.Answer.{givenBy}
 use Rattle.rows.proofs.TestLaws.{size-over}
@@ -21,9 +21,9 @@ use Rattle.print.specs.Card.{placeRight, printable, cardPrinted, refusalMost, r
 use Rattle.print.specs.Write.{written}
 use Rattle.print.proofs.PrintLaws.{nothing-printed, wrote-printed}
 use Rattle.print.proofs.WriteLaws.{pasted-written, written-long}
-use Rattle.whole.specs.Ready.{Gave}
-use Rattle.whole.specs.Whole.{whole}
-use Rattle.whole.proofs.AnswerLaws.{answered-size}
+use Rattle.calculate.specs.Ready.{Gave}
+use Rattle.calculate.specs.Whole.{whole}
+use Rattle.calculate.proofs.AnswerLaws.{answered-size}
 use Rattle.sheet.specs.Ready.{RowsReady}
 use Rattle.sheet.specs.Sheet.{namesOf, blankCard, Sheet, refusedWith, sheetWith, sheetBy, sheetOf, fitted, sheetMost, Filled}
 use Rattle.sheet.proofs.PlaceLaws.{PlaceInside, RowsStand, rows-stand}

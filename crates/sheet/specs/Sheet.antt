@@ -14,7 +14,7 @@ use Rattle.text.specs.declared.Reading.the-variants.{BadLine, Rows}
 use Rattle.text.specs.Grammar.{Row, rowsOf}
 use Rattle.text.specs.Text.{rowsMost, reading, rowNumbers}
 use Rattle.print.specs.Card.{headerSize, lineMost, cardText, refusalText, Printed}
-use Rattle.whole.specs.Whole.{whole}
+use Rattle.calculate.specs.Whole.{whole}
 
 -- the names of a text's rows, as they stand in it
 unfoldable pub namesOf : List ℕ → List (List ℕ)

@@ -2,14 +2,14 @@
 use answers::Answer;
 use answers::NUMBERS;
 use answers::numbers;
-use copy::put_bytes;
+use blocks::put_bytes;
+use calculate::whole_calculation;
 use print::HEADER;
 use print::LINE_MOST;
 use print::print_card;
 use print::print_refusal;
 use text::Reading;
 use text::read_text;
-use whole::whole;
 ghost use Prim.Native.Nat.{_≤_};
 ghost use lib.ListN.{length};
 ghost use Rattle.sheet.specs.Sheet.{sheetMost, refusedWith, sheetOf, fitted, Filled};
@@ -53,7 +53,7 @@ fn print_rows(text: &[u8], list: &[u64], names: &[u64], n: usize, out: &mut [u8]
     }
     let mut card = [0u64; CARD];
     let end = n * 18;
-    let given = whole(&list[..end], &mut card);
+    let given = whole_calculation(&list[..end], &mut card);
     if given[0] == 0 {
         let bytes = print_card(text, names, &card, n, out);
         return Page {

@@ -12,7 +12,7 @@ use lib.Ieee.{Float, nan, inf, fin, up, down, isNan}
 use lib.Ieee.Fits.{down-pos}
 use denote.Floats.{passes}
 use borrow.Author.Tests.{lt-ltb, le-leb}
-use Rattle.grid.proofs.BoolLaws.{zero-not-one}
+use Rattle.fold.proofs.BoolLaws.{zero-not-one}
 use Rattle.single.specs.declared.Rounding.{Rounding}
 use Rattle.single.specs.declared.Current.{Current}
 use Rattle.single.specs.declared.Current.the-variants.{Milliamperes, Refused}

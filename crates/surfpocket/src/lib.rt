@@ -1,5 +1,6 @@
 // The C boundary: the functions of include/surfpocket.h. Each calls one proved entry and hands its numbers on.
 use answers::NUMBERS;
+use calculate::whole_calculation;
 use change::replace;
 use sheet::sheet;
 use study::Converted;
@@ -8,13 +9,12 @@ use study::Reading;
 use study::Study;
 use study::convert;
 use study::refused;
-use whole::whole;
 ghost use mathlib.Core.Path.{_≡_};
 ghost use lib.ListN.{length};
 ghost use Rattle.change.specs.Replace.{replaced};
 ghost use Rattle.sheet.specs.Sheet.{sheetOf, fitted, Filled};
-ghost use Rattle.whole.specs.Whole.{whole};
-ghost use Rattle.whole.specs.Ready.{Gave};
+ghost use Rattle.calculate.specs.Whole.{whole};
+ghost use Rattle.calculate.specs.Ready.{Gave};
 ghost use Rattle.change.specs.Ready.{Gave as GaveBoth};
 ghost use Rattle.surfpocket.specs.Studies.{unitOf, handed, studyOf};
 ghost use Rattle.surfpocket.specs.Version.{version};
@@ -54,7 +54,7 @@ pub extern "C" fn surfpocket_whole(list: &[u64], card: &mut [u64]) -> Surfpocket
     ensures { λ a. ⌜ Gave (whole (now (list .entry)) (now (card .entry))) (a .numbers) (now (card .exit)) ⌝ }
 {
     SurfpocketAnswer {
-        numbers: whole(list, card),
+        numbers: whole_calculation(list, card),
     }
 }
 

@@ -8,7 +8,7 @@ use native.Mathlib.Omega.{arith}
 use lib.ListN.{length, take, drop, length-append}
 use lib.Seq.{paste, take-add, drop-drop, take-at, drop-at, length-take-le, take-length}
 use borrow.Author.Tests.{lt-ltb, le-ltb}
-use Rattle.grid.proofs.BoolLaws.{lt-or-le}
+use Rattle.fold.proofs.BoolLaws.{lt-or-le}
 use Rattle.text.specs.Text.{over, keptIn, blocksOver}
 
 -- block n of w numbers each ends inside, where n is below the room

@@ -10,9 +10,9 @@ use lib.Dec.{eqb}
 use lib.ListN.{length, take, drop, getD, length-append, length-take}
 use lib.Seq.{length-take-le, take-append-add, take-take}
 use borrow.Author.Tests.{ne-eqb, eqb-true, eqb-false}
-use Rattle.grid.specs.declared.Found.{Found}
-use Rattle.grid.specs.declared.Found.the-variants.{At, Nothing}
-use Rattle.grid.proofs.BoolLaws.{passes-or-fails}
+use Rattle.fold.specs.declared.Found.{Found}
+use Rattle.fold.specs.declared.Found.the-variants.{At, Nothing}
+use Rattle.fold.proofs.BoolLaws.{passes-or-fails}
 use Rattle.alphabet.specs.declared.Class.the-variants.{Bare}
 use Rattle.alphabet.specs.Bytes.{bareByte, passes, run}
 use Rattle.cursor.specs.Pieces.{plainPart, nameMost, bareEnd, nameEnd, isFound, placeFound, isName, nameLength}

@@ -10,7 +10,7 @@ use lib.Dec.{leb, eqb}
 use lib.ListN.{length, take, getD, List·getD-append}
 use lib.Seq.{length-take-le, take-append-seam, getD-take}
 use borrow.Author.Tests.{le-leb, leb-true, ne-eqb, eqb-false, not-true}
-use Rattle.grid.proofs.BoolLaws.{and-left, and-right}
+use Rattle.fold.proofs.BoolLaws.{and-left, and-right}
 use Rattle.alphabet.specs.declared.Class.the-variants.{Digit}
 use Rattle.alphabet.specs.Bytes.{digitByte, passes}
 use Rattle.cursor.specs.Pieces.{digits, isNumber, numberOf}

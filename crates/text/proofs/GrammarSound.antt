@@ -9,7 +9,7 @@ use lib.Dec.{eqb}
 use lib.ListN.{length, take, drop, length-drop, take-append-drop, drop-of-length-le}
 use lib.Seq.{drop-drop, take-all}
 use borrow.Author.Tests.{eqb-true, not-false}
-use Rattle.grid.proofs.BoolLaws.{and-left, and-right, passes-or-fails, lt-or-le}
+use Rattle.fold.proofs.BoolLaws.{and-left, and-right, passes-or-fails, lt-or-le}
 use Rattle.alphabet.specs.declared.Class.the-variants.{InLine}
 use Rattle.alphabet.specs.Bytes.{crlf, passes, run}
 use Rattle.alphabet.proofs.RunLaws.{run-end}

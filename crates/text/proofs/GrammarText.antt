@@ -9,7 +9,7 @@ use lib.Dec.{leb, eqb}
 use lib.ListN.{length, take, drop, length-append, drop-of-length-le}
 use lib.Seq.{drop-append-add, take-append-seam, take-length}
 use borrow.Author.Tests.{leb-true, ne-eqb, not-true}
-use Rattle.grid.proofs.BoolLaws.{and-left, and-right}
+use Rattle.fold.proofs.BoolLaws.{and-left, and-right}
 use Rattle.alphabet.specs.declared.Class.the-variants.{InLine}
 use Rattle.alphabet.specs.Bytes.{digitByte, plainByte, bareByte, crlf, passes, run}
 use Rattle.text.specs.Text.{lines, lineLength, afterLine, goodLines}

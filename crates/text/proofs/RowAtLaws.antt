@@ -6,7 +6,7 @@ use Prim.Native.Nat.{ℕ, suc, _+_, _*_, _≤_, _<_}
 use native.Mathlib.Omega.{arith}
 use lib.ListN.{length, take, drop, getD, length-drop}
 use lib.Seq.{drop-drop, drop-cons, length-take-le}
-use Rattle.grid.proofs.BoolLaws.{not-both, fails}
+use Rattle.fold.proofs.BoolLaws.{not-both, fails}
 use Rattle.alphabet.specs.declared.Class.the-variants.{InLine}
 use Rattle.cursor.specs.declared.Cursor.{Cursor}
 use Rattle.alphabet.specs.Bytes.{passes, run}

@@ -5,7 +5,7 @@ use mathlib.Core.List.{List, [], _∷_}
 use Prim.Native.Nat.{ℕ}
 use lib.Dec.{eqb}
 use borrow.Author.Tests.{eq-eqb, eqb-true}
-use Rattle.grid.proofs.BoolLaws.{and-left, and-right, fails}
+use Rattle.fold.proofs.BoolLaws.{and-left, and-right, fails}
 use Rattle.text.specs.Text.{same}
 
 pub same-equal : (a b : List ℕ) → same a b ≡ true → a ≡ b

@@ -1,7 +1,7 @@
 // Reading the text of a list [01 §6].
 use alphabet::Class;
+use blocks::put;
 use check::same;
-use copy::put;
 use cursor::Cursor;
 use line::FIELDS;
 use line::RowRead;

@@ -1,7 +1,7 @@
 -- `answer` is the replacement that section 4 says: sizes, EDIT, then the exchange of the row, each test ending it as it should.
 use mathlib.Core.Path.{sym, _∙_}
 use borrow.Author.Needs.{needs}
-use Rattle.edit.proofs.TestLaws.{edit-passed}
+use Rattle.change.proofs.EditLaws.{edit-passed}
 use Rattle.change.proofs.EntryLaws.{answer-size, answer-edit, answer-ready, answer-exchanged}
 use Rattle.change.proofs.answer.Statement.{statement}
 use Rattle.change.proofs.answer.Tie as tie

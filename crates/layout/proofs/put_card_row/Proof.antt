@@ -1,7 +1,7 @@
 -- `layout::put_card_row` meets its contract: the row's columns, copied as one block, are the row that `putCardRow` puts in.
 use borrow.Author.Needs.{needs}
 use mathlib.Core.Path.{_∙_}
-use Rattle.copy.proofs.BlockLaws.{pasted-sets}
+use Rattle.blocks.proofs.BlockLaws.{pasted-sets}
 use Rattle.layout.specs.Card.{columnsOf, putCardRow}
 use Rattle.layout.proofs.put_card_row.Statement.{statement}
 use Rattle.layout.proofs.put_card_row.Tie as tie

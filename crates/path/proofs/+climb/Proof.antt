@@ -7,7 +7,7 @@ use borrow.Fn.Kinds.{In}
 use borrow.Fn.PlainCycle.{Measures, is, falls, and}
 use Rattle.layout.specs.List.{rows}
 use Rattle.layout.proofs.field_at.Reads as field-at-reads
-use Rattle.work.proofs.work_row.Reads as work-row-reads
+use Rattle.rowwise.proofs.work_row.Reads as work-row-reads
 use Rattle.path.proofs.ClimbLaws.{climb-works, climb-refused, climb-source, climb-on, climb-less, climb-back, climb-done}
 use Rattle.path.proofs.climb.Reads as climb
 use Rattle.path.proofs.climb.Kinds as climb-kinds

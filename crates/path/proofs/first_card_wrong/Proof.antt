@@ -4,7 +4,7 @@ use mathlib.Core.Path.{ap, sym, _∙_}
 use mathlib.Core.Bool.{not}
 use Prim.Native.Nat.{_-_}
 use native.Mathlib.Omega.{arith}
-use Rattle.grid.proofs.FirstLaws.{Passed, passed-none, passed-more, passed-found, passed-all}
+use Rattle.fold.proofs.FirstLaws.{Passed, passed-none, passed-more, passed-found, passed-all}
 use Rattle.path.specs.CardTest.{cardRight}
 use Rattle.path.proofs.first_card_wrong.Statement.{statement}
 use Rattle.path.proofs.first_card_wrong.Tie as tie

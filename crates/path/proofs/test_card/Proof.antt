@@ -2,7 +2,7 @@
 use mathlib.Core.Path.{sym, _∙_}
 use native.Mathlib.Omega.{arith}
 use borrow.Author.Needs.{needs}
-use Rattle.grid.proofs.FirstLaws.{first-below}
+use Rattle.fold.proofs.FirstLaws.{first-below}
 use Rattle.path.proofs.CardTestLaws.{card-refuses, card-passes}
 use Rattle.path.proofs.test_card.Statement.{statement}
 use Rattle.path.proofs.test_card.Tie as tie

@@ -3,8 +3,8 @@ use native.Mathlib.Omega.{arith}
 use borrow.Author.Needs.{needs}
 use Prim.Native.Nat.{_*_}
 use Rattle.layout.specs.Counts.{rowsMost}
-use Rattle.work.specs.Sums.{askCount}
-use Rattle.work.proofs.StartLaws.{clear-reads}
+use Rattle.rowwise.specs.Sums.{askCount}
+use Rattle.rowwise.proofs.StartLaws.{clear-reads}
 use Rattle.path.proofs.work_path.Statement.{statement}
 use Rattle.path.proofs.work_path.Tie as tie
 

@@ -8,8 +8,8 @@ use native.Mathlib.Omega.{arith}
 use denote.Ref.{now}
 use borrow.Author.Tests.{not-true, not-false}
 use borrow.Author.Needs.{needs}
-use Rattle.grid.specs.Fold.{every}
-use Rattle.grid.proofs.BoolLaws.{and-both}
+use Rattle.fold.specs.Fold.{every}
+use Rattle.fold.proofs.BoolLaws.{and-both}
 use Rattle.print.specs.Card.{placeRight}
 use Rattle.print.proofs.PlaceLaws.{every-fails}
 use Rattle.print.proofs.places_right.Statement.{statement}

@@ -3,7 +3,7 @@ use native.Mathlib.Omega.{arith}
 use mathlib.Core.Bool.{not}
 use mathlib.Core.Path.{sym, ap, _∙_}
 use Prim.Native.Nat.{_-_}
-use Rattle.grid.proofs.FirstLaws.{Passed, passed-none, passed-more, passed-found, passed-all}
+use Rattle.fold.proofs.FirstLaws.{Passed, passed-none, passed-more, passed-found, passed-all}
 use Rattle.rows.specs.Tests.{fedWrongly}
 use Rattle.rows.proofs.first_fed_wrongly.Statement.{statement}
 use Rattle.rows.proofs.first_fed_wrongly.Tie as tie

@@ -4,7 +4,7 @@ use mathlib.Core.Bool.{not}
 use mathlib.Core.Path.{sym, ap, _∙_}
 use Prim.Native.Nat.{_-_}
 use Rattle.layout.specs.Counts.{fieldCount}
-use Rattle.grid.proofs.FirstLaws.{Passed, passed-none, passed-more, passed-found, passed-all}
+use Rattle.fold.proofs.FirstLaws.{Passed, passed-none, passed-more, passed-found, passed-all}
 use Rattle.rows.proofs.TestLaws.{fieldWrong, fault-found, fault-none, fault-order}
 use Rattle.rows.proofs.row_fault.Statement.{statement}
 use Rattle.rows.proofs.row_fault.Tie as tie

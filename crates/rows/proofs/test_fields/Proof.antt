@@ -2,7 +2,7 @@
 use native.Mathlib.Omega.{arith}
 use borrow.Author.Needs.{needs}
 use Prim.Native.Nat.{_-_}
-use Rattle.grid.proofs.FirstLaws.{Passed, passed-none, passed-more, passed-found, passed-all}
+use Rattle.fold.proofs.FirstLaws.{Passed, passed-none, passed-more, passed-found, passed-all}
 use Rattle.rows.specs.Tests.{rowAtFault}
 use Rattle.rows.proofs.TestLaws.{row-wrong, row-right, fields-found, fields-none}
 use Rattle.rows.proofs.test_fields.Statement.{statement}

@@ -2,7 +2,7 @@
 use native.Mathlib.Omega.{arith}
 use borrow.Author.Needs.{needs}
 use mathlib.Core.Path.{sym, _∙_}
-use Rattle.grid.proofs.FirstLaws.{first-below}
+use Rattle.fold.proofs.FirstLaws.{first-below}
 use Rattle.rows.proofs.TestLaws.{tree-found, tree-none}
 use Rattle.rows.proofs.test_tree.Statement.{statement}
 use Rattle.rows.proofs.test_tree.Tie as tie

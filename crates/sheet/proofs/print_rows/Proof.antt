@@ -34,8 +34,8 @@ slice-aggregate-whole c =
 slice-aggregate-whole-2 : tie.Need-slice-aggregate-whole-2
 slice-aggregate-whole-2 c = search needs
 
-whole-requires : tie.Need-whole-requires
-whole-requires c κs = search needs
+whole-calculation-requires : tie.Need-whole-calculation-requires
+whole-calculation-requires c κs = search needs
 
 array-read-if2 : tie.Need-array-read-if2
 array-read-if2 c = search needs
@@ -56,7 +56,7 @@ returns-2 c =
     let worked = done .before .before in
     let few = worked .before .before .before in
     let start = few .before .before .before .before .before in
-    card-filled _ _ _ _ _ (start .pre) (few .if1 .left) _ _ (worked .whole .ensures) _ _ _ refl (worked .whole .kept .1 .0) (done .if2 .taken)
+    card-filled _ _ _ _ _ (start .pre) (few .if1 .left) _ _ (worked .whole-calculation .ensures) _ _ _ refl (worked .whole .kept .1 .0) (done .if2 .taken)
     (c .before .before .print-card .ensures)
 
 refuse-requires-2 : tie.Need-refuse-requires-2
@@ -72,7 +72,7 @@ returns-3 c =
     let worked = refused .before .before in
     let few = worked .before .before .before in
     let start = few .before .before .before .before .before in
-    refusal-filled _ _ _ _ _ (start .pre) (few .if1 .left) _ _ (worked .whole .ensures) _ _ _ _ (refused .if2 .left) (c .before .before .refuse2 .ensures)
+    refusal-filled _ _ _ _ _ (start .pre) (few .if1 .left) _ _ (worked .whole-calculation .ensures) _ _ _ _ (refused .if2 .left) (c .before .before .refuse2 .ensures)
 
 pub print-rows-spec : {M : Type 1} → statement M
 print-rows-spec =
@@ -85,7 +85,7 @@ print-rows-spec =
     mul-end
     slice-aggregate-whole
     slice-aggregate-whole-2
-    whole-requires
+    whole-calculation-requires
     array-read-if2
     slice-aggregate-print-card
     print-card-requires

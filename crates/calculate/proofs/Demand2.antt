@@ -1,0 +1,225 @@
+-- DEMAND 2, for a list in range whose rows feed as section 2 says, with room for its card:
+--     accepted-meets          the card given meets every condition of pickup, sensitivity, delay and step together
+--     settings-accepted       where some available settings meet them all, a card is given
+--     accepted-exactly        the two together
+--     no-lower-no-shorter     no other set that does has a lower pickup or a shorter delay in any row
+--     cutoff-column           the cutoff column is section 3's; cutoff-fitted-exactly says when a cutoff is fitted
+--     refused-names           any other list gets 6 or 7 at the first row that no pickup, or else no delay, fits
+--     past-the-card-kept, refused-card-kept      what stands in the lent card otherwise
+-- `whole` is the definition that the public entry's contract cites (specs/Whole.antt).
+use mathlib.Core.Path.{_≡_, refl, sym, ap, _∙_}
+use mathlib.Core.Bool.{true, false}
+use mathlib.Core.Logic.{_↔_, ⊎-elim}
+use mathlib.Core.List.{List}
+use Prim.Native.Nat.{ℕ, _+_, _*_, _≤_, _<_}
+use native.Mathlib.Omega.{arith}
+use lib.ListN.{length, drop}
+use Rattle.fold.specs.declared.Found.{Found}
+use Rattle.fold.specs.declared.Found.the-variants.{At, Nothing}
+use Rattle.fold.proofs.BoolLaws.{passes-or-fails, zero-not-one}
+use Rattle.grid.proofs.GridLaws.{Least, leastOn-least, leastOn-is}
+use Rattle.answers.specs.declared.Answer.{Answer}
+use Rattle.answers.specs.declared.Answer.the-variants.{Done, Unsettled}
+use Rattle.answers.specs.declared.Reason.{Reason}
+use Rattle.answers.specs.declared.Reason.the-variants.{Pickup, Delay}
+use Rattle.answers.specs.declared.Tested.{Tested}
+use Rattle.answers.specs.declared.Tested.the-variants.{Passed, Refused}
+use Rattle.layout.specs.declared.CardRow.{CardRow}
+use Rattle.layout.specs.declared.Row.{Row}
+use Rattle.layout.specs.Card.{cardRowAt}
+use Rattle.layout.specs.Counts.{columnCount}
+use Rattle.layout.specs.List.{rows, rowAt}
+use Rattle.layout.specs.View.{View, viewOf, Settings}
+use Rattle.rows.specs.InRange.{InRange, Feeds, AllBounded}
+use Rattle.rows.specs.Tests.{sizeTest, rowsTest}
+use Rattle.rows.proofs.InRangeLaws.{in-range-passes, row-bounded}
+use Rattle.rows.proofs.TestLaws.{size-passed}
+use Rattle.settle.specs.declared.Cutoff.the-variants.{Fitted, NotFitted}
+use Rattle.settle.specs.Conditions.{staysClear, seesNear}
+use Rattle.settle.specs.Settle.{leastPickup, fitting, cutoffOf, printed, shown, settled}
+use Rattle.settle.proofs.OutcomeLaws.{outcome-set}
+use Rattle.settle.proofs.SameLaws.{fed-below}
+use Rattle.rowwise.specs.WorkOut.{Worked, finished, refused}
+use Rattle.calculate.specs.Meets.{PickupsMeet, DelaysMeet, Meets}
+use Rattle.calculate.specs.Refused.{RowSettled, RefusedAt}
+use Rattle.calculate.specs.Whole.{Result, ending, after, calculation, whole}
+use Rattle.calculate.proofs.FrameLaws.{calculation-keeps}
+use Rattle.calculate.proofs.LeastLaws.{pickups-under, pickup-fits, delays-under, delay-fits}
+use Rattle.calculate.proofs.MeetsLaws.{settled-meets}
+use Rattle.calculate.proofs.RefusedLaws.{calculation-refused}
+use Rattle.calculate.proofs.SettledLaws.{calculation-settled}
+
+-- no answer is two things at once, nor is a cutoff
+unsettled-not-done : {row : ℕ} {why : Reason} → Unsettled row why ≡ Done → ⊥
+unsettled-not-done e = zero-not-one cc
+
+pickup-not-delay : {row row′ : ℕ} → Unsettled row Pickup ≡ Unsettled row′ Delay → ⊥
+pickup-not-delay e = zero-not-one cc
+
+fitted-not : {C : ℕ} → Fitted C ≡ NotFitted → ⊥
+fitted-not e = zero-not-one cc
+
+module _ (l c : List ℕ) (size : sizeTest (length l) (length c) ≡ Passed) (a : InRange l) (b : Feeds l) where
+  v : View
+  v = viewOf l
+
+  -- the card that stands there afterwards
+  card : Settings
+  card = cardRowAt (whole l c .card)
+
+  room : rows l * columnCount ≤ length c
+  room = omega (arith, size-passed (length l) (length c) size .card-room)
+
+  bounded : AllBounded v
+  unfolding v
+  bounded j h = row-bounded l a j h
+
+  calculates : whole l c ≡ ending c (calculation l c)
+  unfolding whole after
+  calculates = rw (size, in-range-passes l a b)
+
+  -- a card is given exactly where the calculation finishes, and it is that card; any other list is refused by row
+  data Ended : Type 0 where
+    accepted : whole l c .answer ≡ Done → calculation l c ≡ finished (whole l c .card) → Ended
+    refused-by : (x : Answer) → whole l c .answer ≡ x → RefusedAt v x → Ended
+
+  ended : Ended
+  unfolding ending v
+  ended = by-cases (calculation l c) refl
+    where
+      by-cases : (w : Worked) → calculation l c ≡ w → Ended
+      by-cases (finished c′) f =
+          let q = calculates ∙ ap (ending c) f in
+          accepted (ap (λ (r : Result). r .answer) q) (f ∙ ap finished (sym (ap (λ (r : Result). r .card) q)))
+      by-cases (refused x) f =
+          refused-by x (ap (λ (r : Result). r .answer) (calculates ∙ ap (ending c) f)) (calculation-refused l bounded b c x room f)
+
+  -- a refusal by row is no acceptance
+  never-done : {x : Answer} → RefusedAt v x → x ≡ Done → ⊥
+  never-done z e = ⊎-elim (λ w. unsettled-not-done (sym (w .0) ∙ e)) (λ w. unsettled-not-done (sym (w .0) ∙ e)) (z .why)
+
+  every-row-settled : whole l c .answer ≡ Done → (j : ℕ) → j < rows l → RowSettled v card j
+  unfolding v card
+  every-row-settled e = by-cases ended
+    where
+      by-cases : Ended → (j : ℕ) → j < rows l → RowSettled v card j
+      by-cases (accepted d f) = calculation-settled l b c (whole l c .card) room f
+      by-cases (refused-by x d z) = absurd (never-done z (sym d ∙ e))
+
+  pub accepted-meets : whole l c .answer ≡ Done → Meets (viewOf l) (cardRowAt (whole l c .card))
+  unfolding v card
+  accepted-meets e = settled-meets v bounded card (every-row-settled e)
+
+  -- pickups that meet P1 to P4: no row is refused with PICKUP, and none of the card's is higher
+  module _ (k : Settings) (m : PickupsMeet (viewOf l) k) where
+    pub pickups-exist : (row : ℕ) → whole l c .answer ≡ Unsettled row Pickup → ⊥
+    unfolding v
+    pickups-exist row e = by-cases ended
+      where
+        by-cases : Ended → ⊥
+        by-cases (accepted d f) = unsettled-not-done (sym e ∙ d)
+        by-cases (refused-by x d z) =
+            ⊎-elim
+            (λ w. pickup-fits v bounded (fed-below l b) (cardRowAt (z .card)) k m (z .row) (z .within) (z .rows-below) (w .1))
+            (λ w. pickup-not-delay (sym e ∙ d ∙ w .0))
+            (z .why)
+
+    pub no-lower-pickup : whole l c .answer ≡ Done → (i : ℕ) → i < rows l → cardRowAt (whole l c .card) i .pickup ≤ k i .pickup
+    unfolding v card
+    no-lower-pickup e = pickups-under v bounded (fed-below l b) card k m (rows l) (omega arith) (every-row-settled e)
+
+  -- delays that meet D1 and D2: no row is refused with DELAY, and none of the card's is longer
+  module _ (k : Settings) (m : DelaysMeet (viewOf l) k) where
+    pub delays-exist : (row : ℕ) → whole l c .answer ≡ Unsettled row Delay → ⊥
+    unfolding v
+    delays-exist row e = by-cases ended
+      where
+        by-cases : Ended → ⊥
+        by-cases (accepted d f) = unsettled-not-done (sym e ∙ d)
+        by-cases (refused-by x d z) =
+            ⊎-elim
+            (λ w. pickup-not-delay (sym (w .0) ∙ sym d ∙ e))
+            (λ w. delay-fits v bounded (fed-below l b) (cardRowAt (z .card)) k m (z .row) (z .within) (z .rows-below) (w .2))
+            (z .why)
+
+    pub no-shorter-delay : whole l c .answer ≡ Done → (i : ℕ) → i < rows l → cardRowAt (whole l c .card) i .delay ≤ k i .delay
+    unfolding v card
+    no-shorter-delay e = delays-under v bounded (fed-below l b) card k m (rows l) (omega arith) (every-row-settled e)
+
+  -- settings that meet every condition
+  module _ (k : Settings) (m : Meets (viewOf l) k) where
+    pub settings-accepted : whole l c .answer ≡ Done
+    settings-accepted = by-cases ended
+      where
+        by-cases : Ended → whole l c .answer ≡ Done
+        by-cases (accepted d f) = d
+        by-cases (refused-by x d z) =
+            absurd
+            (⊎-elim
+            (λ w. pickups-exist k (m .pickups) (z .row + 1) (d ∙ w .0))
+            (λ w. delays-exist k (m .delays) (z .row + 1) (d ∙ w .0))
+            (z .why))
+
+    pub no-lower-no-shorter :
+        (i : ℕ) → i < rows l → (cardRowAt (whole l c .card) i .pickup ≤ k i .pickup) × (cardRowAt (whole l c .card) i .delay ≤ k i .delay)
+    no-lower-no-shorter i h =
+        (no-lower-pickup k (m .pickups) settings-accepted i h, no-shorter-delay k (m .delays) settings-accepted i h)
+
+  pub accepted-exactly : (whole l c .answer ≡ Done) ↔ ((k : Settings) × Meets (viewOf l) k)
+  accepted-exactly = (λ e. (cardRowAt (whole l c .card), accepted-meets e), λ s. settings-accepted (s .0) (s .1))
+
+  pub cutoff-column : whole l c .answer ≡ Done → (i : ℕ) → i < rows l → cardRowAt (whole l c .card) i .cutoff ≡ printed (cutoffOf (rowAt l i))
+  unfolding settled shown v card
+  cutoff-column e i h =
+      let s = every-row-settled e i h in
+      ap (λ (k : CardRow). k .cutoff) (s .shows) ∙ ap printed (outcome-set (rowAt l i) _ _ (s .outcome) (s .settles) .cutoff-is)
+
+  pub refused-names : (whole l c .answer ≡ Done → ⊥) → RefusedAt (viewOf l) (whole l c .answer)
+  unfolding v
+  refused-names n = by-cases ended
+    where
+      by-cases : Ended → RefusedAt (viewOf l) (whole l c .answer)
+      by-cases (accepted d f) = absurd (n d)
+      by-cases (refused-by x d z) = rw d z
+
+  pub past-the-card-kept : whole l c .answer ≡ Done → drop (rows l * columnCount) (whole l c .card) ≡ drop (rows l * columnCount) c
+  past-the-card-kept e = by-cases ended
+    where
+      by-cases : Ended → drop (rows l * columnCount) (whole l c .card) ≡ drop (rows l * columnCount) c
+      by-cases (accepted d f) = calculation-keeps l c (whole l c .card) f .past-rows
+      by-cases (refused-by x d z) = absurd (never-done z (sym d ∙ e))
+
+-- the cutoff is fitted at C exactly where C is the least available value that stays clear, and sees its near fault
+pub cutoff-fitted-exactly :
+    (r : Row) (k : 0 < r .step) (C : ℕ) → (cutoffOf r ≡ Fitted C) ↔ (Least (r .low) (r .high) (r .step) k (staysClear r) C × (seesNear r C ≡ true))
+unfolding cutoffOf fitting
+cutoff-fitted-exactly r k C = (λ e. to (leastPickup r (staysClear r)) refl e, λ h. rw (leastOn-is _ _ _ k (staysClear r) C (h .0), h .1))
+  where
+    to :
+        (f : Found) → leastPickup r (staysClear r) ≡ f → fitting r f ≡ Fitted C → Least (r .low) (r .high) (r .step) k (staysClear r) C ×
+        (seesNear r C ≡ true)
+    to (At x) g e =
+        ⊎-elim
+        (λ (t : seesNear r x ≡ true).
+        let q : Fitted x ≡ Fitted C = rw t at e in
+        let s : x ≡ C = cc in
+        rw (← s) (leastOn-least _ _ _ k (staysClear r) x g, t))
+        (λ (t : seesNear r x ≡ false).
+        let q : NotFitted ≡ Fitted C = rw t at e in
+        absurd (fitted-not (sym q)))
+        (passes-or-fails (seesNear r x))
+    to Nothing g e = absurd (fitted-not (sym e))
+
+-- whatever is refused, the lent card is as it was lent
+kept-by :
+    (c : List ℕ) (t u : Tested) (w : Worked) → (after t c (after u c (ending c w)) .answer ≡ Done → ⊥) → after t c
+    (after u c (ending c w)) .card ≡ c
+unfolding after ending
+kept-by c (Refused x) u w n = refl
+kept-by c Passed (Refused x) w n = refl
+kept-by c Passed Passed (finished c′) n = absurd (n refl)
+kept-by c Passed Passed (refused x) n = refl
+
+pub refused-card-kept : (l c : List ℕ) → (whole l c .answer ≡ Done → ⊥) → whole l c .card ≡ c
+unfolding whole
+refused-card-kept l c n = kept-by c (sizeTest (length l) (length c)) (rowsTest l) (calculation l c) n

@@ -1,0 +1,95 @@
+-- `rowwise::work_row` meets its contract: the row is settled by its four numbers; a refusal touches nothing, and an outcome goes to
+-- the card and to the sums.
+use borrow.Author.Needs.{needs}
+use mathlib.Core.Path.{sym, _∙_, subst}
+use Rattle.rows.specs.InRange.{Bounded}
+use Rattle.settle.specs.Fed.{FedBounded, CardBounded}
+use Rattle.settle.proofs.OutcomeLaws.{set-bounded}
+use Rattle.rowwise.proofs.StepLaws.{step-unsettled, step-set}
+use Rattle.rowwise.proofs.work_row.Statement.{statement}
+use Rattle.rowwise.proofs.work_row.Tie as tie
+
+row-at-requires : tie.Need-row-at-requires
+row-at-requires c κs = search needs
+
+fed-at-requires : tie.Need-fed-at-requires
+fed-at-requires c κs = search needs
+
+settle-requires : tie.Need-settle-requires
+settle-requires c κs =
+    let read = c .before .before in
+    let a = read .before .before .before .before .pre in
+    (subst Bounded (sym (read .row-at .ensures)) (a .bounded), subst FedBounded (sym (c .fed-at .ensures)) (a .fed-bounded))
+
+enum-known-why : tie.Need-enum-known-why
+enum-known-why c = search needs
+
+add-t15 : tie.Need-add-t15
+add-t15 c = search needs
+
+enum-known-o : tie.Need-enum-known-o
+enum-known-o c = search needs
+
+card-row-requires : tie.Need-card-row-requires
+card-row-requires c κs = search needs
+
+put-card-row-requires : tie.Need-put-card-row-requires
+put-card-row-requires c κs = search needs
+
+push-requires : tie.Need-push-requires
+push-requires c κs =
+    let shown = c .before .before .before .before .before in
+    let outcome = shown .before .before in
+    let settled = outcome .before .before in
+    let read = settled .before .before .before in
+    let a = read .before .before .before .before .pre in
+    let bounded = subst Bounded (sym (read .row-at .ensures)) (a .bounded) in
+    let k = set-bounded _ _ _ bounded (sym (outcome .o .given .1) ∙ settled .settle .ensures) in
+    rw (read .row-at .ensures)
+    (record { bounded = a .bounded; settings = subst CardBounded (sym (shown .card-row .ensures)) k; feeder = a .feeder })
+
+same-length : tie.Need-same-length
+same-length c = search needs
+
+returns : tie.Need-returns
+returns c =
+    let settled = c .before .before .before in
+    let fed = settled .before in
+    step-unsettled _ _ _ _ _ _ (fed .before .before .row-at .ensures) (fed .fed-at .ensures) _
+    (sym (c .before .why .given .1) ∙ settled .settle .ensures)
+
+same-length-2 : tie.Need-same-length-2
+same-length-2 c = search needs
+
+same-length-3 : tie.Need-same-length-3
+same-length-3 c = search needs
+
+returns-2 : tie.Need-returns-2
+returns-2 c =
+    let pushed = c .before .before in
+    let put = pushed .before .before .before .before in
+    let shown = put .before .before in
+    let outcome = shown .before .before in
+    let settled = outcome .before .before in
+    let fed = settled .before in
+    step-set _ _ _ _ _ _ (fed .before .before .row-at .ensures) (fed .fed-at .ensures) _ _ _ _
+    (sym (outcome .o .given .1) ∙ settled .settle .ensures) (shown .card-row .ensures) (put .put-card-row .ensures) (pushed .push .ensures)
+
+pub work-row-spec : {M : Type 1} → statement M
+work-row-spec =
+    tie.close
+    (tie.spec
+    row-at-requires
+    fed-at-requires
+    settle-requires
+    enum-known-why
+    add-t15
+    enum-known-o
+    card-row-requires
+    put-card-row-requires
+    push-requires
+    same-length
+    returns
+    same-length-2
+    same-length-3
+    returns-2)

@@ -1,0 +1,39 @@
+-- What one row's working out asks of its callers, and its promise. Definitions only.
+use mathlib.Core.Path.{_≡_}
+use mathlib.Core.List.{List}
+use Prim.Native.Nat.{ℕ, _+_, _-_, _*_, _≤_}
+use lib.ListN.{length}
+use Rattle.answers.specs.declared.Tested.{Tested}
+use Rattle.layout.specs.declared.CardRow.{CardRow}
+use Rattle.layout.specs.declared.Row.{Row}
+use Rattle.layout.specs.Counts.{fieldCount, columnCount}
+use Rattle.layout.specs.List.{rowAt}
+use Rattle.rows.specs.InRange.{Bounded}
+use Rattle.settle.specs.Fed.{FedBounded, CardBounded}
+use Rattle.rowwise.specs.Sums.{askCount, fedAt, Step}
+
+-- a row's feeder has its place in the sums, and a load more does not overflow there
+pub record HasFeeder (r : Row) (s : List ℕ) : Type 0 where
+  pub has-place : 1 ≤ r .feeder → (r .feeder - 1) * askCount + askCount ≤ length s
+  pub load-fits : 1 ≤ r .feeder → fedAt s (r .feeder - 1) .load ≤ 12800000000000000
+
+-- what a row with these settings asks can be added for its feeder
+pub record PushReady (r : Row) (k : CardRow) (s : List ℕ) : Type 0 where
+  pub bounded : Bounded r
+  pub settings : CardBounded k
+  pub feeder : HasFeeder r s
+
+-- row i can be worked out
+pub record WorkReady (l : List ℕ) (i : ℕ) (c s : List ℕ) : Type 0 where
+  pub in-list : i * fieldCount + fieldCount ≤ length l
+  pub in-card : i * columnCount + columnCount ≤ length c
+  pub in-sums : i * askCount + askCount ≤ length s
+  pub bounded : Bounded (rowAt l i)
+  pub fed-bounded : FedBounded (fedAt s i)
+  pub feeder : HasFeeder (rowAt l i) s
+
+-- the answer, the card and the sums are the step's
+pub record Stepped (z : Step) (t : Tested) (c s : List ℕ) : Type 0 where
+  pub answer : t ≡ z .tested
+  pub card : c ≡ z .card
+  pub sums : s ≡ z .sums
