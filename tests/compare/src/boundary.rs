@@ -18,6 +18,14 @@ struct SurfpocketStudy {
     least: u64,
 }
 
+#[repr(C)]
+struct SurfpocketPrinted {
+    number: u64,
+    place: u64,
+    field: u64,
+    bytes: usize,
+}
+
 extern "C" {
     fn surfpocket_whole(
         list: *const u64,
@@ -50,7 +58,7 @@ extern "C" {
         text_length: usize,
         out: *mut u8,
         out_length: usize,
-    ) -> usize;
+    ) -> SurfpocketPrinted;
 }
 
 fn answered(given: SurfpocketAnswer) -> Answer {
@@ -103,11 +111,13 @@ pub fn study(greatest: Reading, least: Reading) -> StudyAnswer {
     }
 }
 
-/// The room that a print asks for.
+/// Room for any print.
 pub const CARD_ROOM: usize = 22_810;
 
-/// How many bytes of `out` were written: a card or a refusal, or nothing for want of room.
-pub fn card(text: &[u8], out: &mut [u8]) -> usize {
+/// The answer, and how many bytes of `out` were written.
+pub fn card(text: &[u8], out: &mut [u8]) -> (Answer, usize) {
     // SAFETY: as for `whole`.
-    unsafe { surfpocket_card(text.as_ptr(), text.len(), out.as_mut_ptr(), out.len()) }
+    let given =
+        unsafe { surfpocket_card(text.as_ptr(), text.len(), out.as_mut_ptr(), out.len()) };
+    (Answer { number: given.number, place: given.place, field: given.field }, given.bytes)
 }

@@ -9,21 +9,23 @@ use second::generate::*;
 use second::text::card;
 
 /// A number and whether it names a place: TEXT does so or not, by what is wrong.
-/// ROOM cannot be given: the card lent for a text has room for 256 rows.
 pub const NUMBERS: Group = Group {
-    name: "numbers printed of texts",
+    name: "numbers given for texts",
     wanted: || {
         let rows = [FIELD, TREE, PICKUP, DELAY].map(|number| (number, 1));
-        [[(DONE, 0), (TEXT, 0), (TEXT, 1), (COUNT, 0)], rows].concat()
+        [&[(DONE, 0), (TEXT, 0), (TEXT, 1), (COUNT, 0), (ROOM, 0)][..], &rows].concat()
     },
     label: |item| format!("{}{}", name_of(item.0), ["", " at a place"][item.1 as usize]),
 };
 
-/// Room for the print, as less than, exactly or more than it asks for.
+/// Room for the print, as less than, exactly or more than it takes: of a card, and of a refusal.
 pub const ROOMS: Group = Group {
     name: "rooms for the print",
-    wanted: || vec![(0, 0), (1, 0), (2, 0)],
-    label: |item| ["short", "exact", "more"][item.0 as usize].to_string(),
+    wanted: || (0..6).map(|item| (item % 3, item / 3)).collect(),
+    label: |item| {
+        let (room, printed) = (["short", "exact", "more"], ["card", "refusal"]);
+        format!("{} for a {}", room[item.0 as usize], printed[item.1 as usize])
+    },
 };
 
 pub const GROUPS: [Group; 2] = [NUMBERS, ROOMS];
@@ -40,41 +42,41 @@ pub const KINDS: [Kind; 8] = [
 ];
 
 /// Both programs on the same text, byte for byte; a guard on each side of the
-/// lent room, the text and the bytes past the print must stand. Number and
-/// place are those printed.
+/// lent room, the text and the bytes past the print must stand. What does not
+/// fit is not printed, and a card is then ROOM. Number and place are those given.
 pub fn same(text: &[u8], room: usize, seen: &mut Seen) -> Result<Item, String> {
     const GUARD: usize = 16;
     let end = GUARD + room;
     let mark = (text.len() % 256) as u8;
     let before: Vec<u8> = (0..end + GUARD).map(|at| mark.wrapping_add(at as u8)).collect();
     let (lent, mut guarded) = (text.to_vec(), before.clone());
-    let printed = boundary::card(&lent, &mut guarded[GUARD..end]);
-    let expected = if room < CARD_ROOM { Vec::new() } else { card(text) };
+    let (given, printed) = boundary::card(&lent, &mut guarded[GUARD..end]);
+    let sheet = card(text);
+    let (size, refused) = (sheet.len(), answer_printed(&sheet) != Answer::DONE);
+    let expected = if room < size { Vec::new() } else { sheet.clone() };
+    let due = if room < size && !refused { Answer::at(ROOM, 0) } else { answer_printed(&sheet) };
     let wanted = [&before[..GUARD], &expected, &before[GUARD + expected.len()..]].concat();
-    if printed != expected.len() || guarded != wanted || lent != text {
-        let given = String::from_utf8_lossy(guarded.get(GUARD..GUARD + printed).unwrap_or(&[]));
+    if given != due || printed != expected.len() || guarded != wanted || lent != text {
+        let bytes = String::from_utf8_lossy(guarded.get(GUARD..GUARD + printed).unwrap_or(&[]));
         let (expected, text) = (String::from_utf8_lossy(&expected), String::from_utf8_lossy(text));
-        return Err(format!("{given:?}, not {expected:?}, or the buffers differ: {text:?}"));
+        let answers = format!("{given:?} {bytes:?}, not {due:?} {expected:?}");
+        return Err(format!("{answers}, or the buffers differ: {text:?}"));
     }
     seen.compared += 1;
-    seen.note(&ROOMS, (1 + u64::from(room > CARD_ROOM) - u64::from(room < CARD_ROOM), 0));
-    if room < CARD_ROOM {
-        return Ok((ROOM, 0));
-    }
-    let given = number_and_place(&expected);
-    seen.note(&NUMBERS, (given.0, given.1.min(1)));
-    seen.accepted += u64::from(given.0 == DONE);
-    Ok(given)
+    seen.note(&ROOMS, (1 + u64::from(room > size) - u64::from(room < size), u64::from(refused)));
+    seen.note(&NUMBERS, (given.number, given.place.min(1)));
+    seen.accepted += u64::from(given == Answer::DONE);
+    Ok((given.number, given.place))
 }
 
-fn number_and_place(printed: &[u8]) -> Item {
-    let Some(line) = printed.strip_prefix(b"refused,place,field\r\n") else { return (DONE, 0) };
-    let words = std::str::from_utf8(line).expect("digits").split(',');
-    let numbers: Vec<u64> = words.take(2).map(|word| word.parse().expect("a number")).collect();
-    (numbers[0], numbers[1])
+fn answer_printed(printed: &[u8]) -> Answer {
+    let Some(line) = printed.strip_prefix(b"refused,place,field\r\n") else { return Answer::DONE };
+    let words = std::str::from_utf8(line).expect("digits").trim_end().split(',');
+    let numbers: Vec<u64> = words.map(|word| word.parse().expect("a number")).collect();
+    Answer { number: numbers[0], place: numbers[1], field: numbers[2] }
 }
 
-/// With exactly the room it asks for, at times with more.
+/// With room for any print, at times with more.
 pub fn ample(text: &[u8], seed: u64, seen: &mut Seen) -> Found {
     same(text, CARD_ROOM + (seed % 3 * 50) as usize, seen).map(|_| ())
 }
@@ -119,10 +121,11 @@ fn any_bytes(_: u64, seed: u64, seen: &mut Seen) -> Found {
     ample(&text, seed, seen)
 }
 
-/// None, one short, exactly, one more, and any.
+/// None, one short, exactly, one more, room for any print, and any; for a card or a refusal.
 fn rooms(_: u64, seed: u64, seen: &mut Seen) -> Found {
-    let text = short_text(12, seed);
-    let any = Rng::new(seed).below(2 * CARD_ROOM as u64) as usize;
-    let rooms = [0, 1, text.len(), CARD_ROOM - 1, CARD_ROOM, CARD_ROOM + 1, any];
+    let text = if seed % 2 == 0 { short_text(12, seed) } else { text(&list(seed), seed) };
+    let (size, most) = (card(&text).len(), CARD_ROOM);
+    let any = Rng::new(seed).below(2 * size as u64) as usize;
+    let rooms = [0, 1, size - 1, size, size + 1, most - 1, most, most + 1, any];
     rooms.into_iter().try_for_each(|room| same(&text, room, seen).map(|_| ()))
 }
