@@ -1,4 +1,4 @@
--- The lines of a card written one after the other. Assumes nothing.
+-- The lines of a card written one after the other.
 use mathlib.Core.Path.{_≡_, refl, _∙_}
 use mathlib.Core.List.{List, [], _++_, append-assoc, append-nil}
 use Prim.Native.Nat.{ℕ, suc, _+_, _-_, _*_, _≤_, _<_}
@@ -14,13 +14,15 @@ use Rattle.print.proofs.FieldsLaws.{fields-short}
 use Rattle.print.proofs.PlaceLaws.{place-was}
 use Rattle.print.proofs.WriteLaws.{written-none, wrote-then}
 
-pub line-short : (s places card : List ℕ) (i : ℕ) → getD places (i * 2 + 1) 0 ≤ nameMost → length (lineText (nameAtPlace s (drop (i * 2) places)) card) ≤ lineMost
+pub line-short :
+    (s places card : List ℕ) (i : ℕ) → getD places (i * 2 + 1) 0 ≤ nameMost →
+    length (lineText (nameAtPlace s (drop (i * 2) places)) card) ≤ lineMost
 unfolding lineText nameAtPlace
 line-short s places card i h =
     let n = take (getD (drop (i * 2) places) 1 0) (drop (getD (drop (i * 2) places) 0 0) s) in
     let k = length-take (getD (drop (i * 2) places) 1 0) (drop (getD (drop (i * 2) places) 0 0) s) in
-    omega
-    (arith, k, getD-drop (i * 2) places 1 0, fields-short cardCount card, length-append (n ++ fieldsText cardCount card) lineEnd, length-append n (fieldsText cardCount card))
+    let f = fieldsText cardCount card in
+    omega (arith, k, getD-drop (i * 2) places 1 0, fields-short cardCount card, length-append (n ++ f) lineEnd, length-append n f)
 
 -- i of n rows are written
 pub record Partly (s places card : List ℕ) (n : ℕ) (out : List ℕ) (at : ℕ) (out′ : List ℕ) (next i : ℕ) : Type 0 where
@@ -58,7 +60,8 @@ module _
   next-row :
       i < n →
       rowsText (namesAt s (n - i) (drop (i * 2) places)) (drop (i * cardCount) card) ≡
-      lineText (nameAtPlace s (drop (i * 2) places)) (drop (i * cardCount) card) ++ rowsText (namesAt s (n - (i + 1)) (drop ((i + 1) * 2) places)) (drop ((i + 1) * cardCount) card)
+      lineText (nameAtPlace s (drop (i * 2) places)) (drop (i * cardCount) card) ++
+      rowsText (namesAt s (n - (i + 1)) (drop ((i + 1) * 2) places)) (drop ((i + 1) * cardCount) card)
   unfolding rowsText namesAt
   next-row l =
       let e : n - i ≡ suc (n - (i + 1)) = omega arith in
@@ -71,14 +74,16 @@ module _
       length out″ ≡ length out′ → Partly s places card n out at out″ r (i + 1)
   partly-more out″ r l w same =
       let f : List ℕ = lineText (nameAtPlace s (drop (i * 2) places)) (drop (i * cardCount) card) in
-      let k = line-short s places (drop (i * cardCount) card) i (place-was (length s) places i (every-at (placeRight (length s) places) n i (fit .right) l) .short) in
+      let right = every-at (placeRight (length s) places) n i (fit .right) l in
+      let k = line-short s places (drop (i * cardCount) card) i (place-was (length s) places i right .short) in
+      let rest = rowsText (namesAt s (n - (i + 1)) (drop ((i + 1) * 2) places)) (drop ((i + 1) * cardCount) card) in
       let a = length-append (h .done) f in
       record {
         done = h .done ++ f;
         few = omega arith;
         short = omega (arith, h .short, a, k);
         wrote = wrote-then out at (h .done) out′ next f out″ r (omega (arith, h .short, k, fit .out-room)) (h .wrote) w;
-        left = append-assoc (h .done) f (rowsText (namesAt s (n - (i + 1)) (drop ((i + 1) * 2) places)) (drop ((i + 1) * cardCount) card)) ∙ (rw (next-row l) at (h .left));
+        left = append-assoc (h .done) f rest ∙ (rw (next-row l) at (h .left));
         long = same ∙ h .long;
       }
 

@@ -1,4 +1,4 @@
--- The decimal digits of a number: how many, and that reading them gives the number back. Assumes nothing.
+-- The decimal digits of a number: how many, and that reading them gives the number back.
 use mathlib.Core.Path.{_≡_, refl, sym, ap, _∙_}
 use mathlib.Core.Bool.{true, false}
 use mathlib.Core.Logic.{⊎-elim}

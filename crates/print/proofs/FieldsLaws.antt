@@ -40,7 +40,9 @@ partly-none m out at values from =
     }
 
 module _ (m : ℕ) (out : List ℕ) (at : ℕ) (values : List ℕ) (from : ℕ) (out′ : List ℕ) (next k : ℕ) (h : Partly m out at values from out′ next k) where
-  next-field : k < m → fieldsText (m - k) (drop (from + k) values) ≡ (44 ∷ numberText (getD values (from + k) 0)) ++ fieldsText (m - (k + 1)) (drop (from + (k + 1)) values)
+  next-field :
+      k < m →
+      fieldsText (m - k) (drop (from + k) values) ≡ (44 ∷ numberText (getD values (from + k) 0)) ++ fieldsText (m - (k + 1)) (drop (from + (k + 1)) values)
   unfolding fieldsText
   next-field l =
       let e : m - k ≡ suc (m - (k + 1)) = omega arith in

@@ -1,4 +1,4 @@
--- Names by their places: which are right, and what room a card takes. Assumes nothing.
+-- Names by their places: which are right, and what room a card takes.
 use mathlib.Core.Path.{_≡_}
 use mathlib.Core.Bool.{Bool, true, false, _&&_}
 use mathlib.Core.List.{List}

@@ -14,7 +14,9 @@ use Rattle.answers.specs.Answer.{numberCount}
 use Rattle.cursor.specs.Pieces.{nameMost}
 use Rattle.cursor.specs.Names.{nameAtPlace, namesAt}
 use Rattle.print.specs.Write.{numberText, written, Wrote}
-use Rattle.print.specs.Card.{cardCount, headerSize, lineMost, refusalMost, cardHeader, refusalHeader, lineEnd, fieldsText, lineText, rowsText, cardText, refusalText, placeRight, printable, Printed, cardPrinted, refusalPrinted}
+use Rattle.print.specs.Card.{cardCount, headerSize, lineMost, refusalMost, cardHeader, refusalHeader, lineEnd}
+use Rattle.print.specs.Card.{fieldsText, lineText, rowsText, cardText, refusalText}
+use Rattle.print.specs.Card.{placeRight, printable, Printed, cardPrinted, refusalPrinted}
 use Rattle.print.proofs.DigitLaws.{number-few}
 use Rattle.print.proofs.FieldsLaws.{fields-short}
 use Rattle.print.proofs.PlaceLaws.{place-was, printable-room}
@@ -47,8 +49,11 @@ unfolding refusalText
 refusal-short numbers =
     let first = numberText (getD numbers 0 0) in
     let more = fieldsText (numberCount - 1) (drop 1 numbers) in
-    omega
-    (arith, number-few (getD numbers 0 0), fields-short (numberCount - 1) (drop 1 numbers), length-append refusalHeader first, length-append (refusalHeader ++ first) more, length-append (refusalHeader ++ first ++ more) lineEnd)
+    let n = number-few (getD numbers 0 0) in
+    let m = fields-short (numberCount - 1) (drop 1 numbers) in
+    let a = length-append refusalHeader first in
+    let b = length-append (refusalHeader ++ first) more in
+    omega (arith, n, m, a, b, length-append (refusalHeader ++ first ++ more) lineEnd)
 
 pub refusal-all :
     (numbers out o₁ o₂ o₃ o₄ : List ℕ) (r₁ r₂ r₃ r₄ : ℕ) → refusalMost ≤ length out → length o₄ ≡ length out →
@@ -77,7 +82,9 @@ pub card-none :
 unfolding cardPrinted
 card-none s places card n out h = rw h (nothing-printed out)
 
-rows-short : (s places card : List ℕ) (n i : ℕ) → ((j : ℕ) → j < n → getD places ((i + j) * 2 + 1) 0 ≤ nameMost) → length (rowsText (namesAt s n (drop (i * 2) places)) card) ≤ n * lineMost
+rows-short :
+    (s places card : List ℕ) (n i : ℕ) → ((j : ℕ) → j < n → getD places ((i + j) * 2 + 1) 0 ≤ nameMost) →
+    length (rowsText (namesAt s n (drop (i * 2) places)) card) ≤ n * lineMost
 unfolding rowsText namesAt
 rows-short s places card zero i h = omega arith
 rows-short s places card (suc n) i h =
@@ -85,9 +92,9 @@ rows-short s places card (suc n) i h =
     let k = line-short s places card i (rw e at (h 0 (omega arith))) in
     let a : i * 2 + 2 ≡ (i + 1) * 2 = omega arith in
     let r = rows-short s places (drop cardCount card) n (i + 1) (λ j l. rw (add-assoc i 1 j, one-add j) (h (suc j) (omega arith))) in
-    rw (drop-drop 2 (i * 2) places, a)
-    (omega
-    (arith, k, r, length-append (lineText (nameAtPlace s (drop (i * 2) places)) card) (rowsText (namesAt s n (drop ((i + 1) * 2) places)) (drop cardCount card))))
+    let line = lineText (nameAtPlace s (drop (i * 2) places)) card in
+    let rest = rowsText (namesAt s n (drop ((i + 1) * 2) places)) (drop cardCount card) in
+    rw (drop-drop 2 (i * 2) places, a) (omega (arith, k, r, length-append line rest))
 
 pub card-short :
     (s places card : List ℕ) (n : ℕ) → ((j : ℕ) → j < n → getD places (j * 2 + 1) 0 ≤ nameMost) →
@@ -98,7 +105,8 @@ card-short s places card n h =
     omega (arith, k, length-append cardHeader (rowsText (namesAt s n places) card))
 
 pub card-all :
-    (s places card : List ℕ) (n : ℕ) (out o₁ o₂ : List ℕ) (r₁ r₂ : ℕ) → printable (length s) places (length card) n (length out) ≡ true → length o₂ ≡ length out →
+    (s places card : List ℕ) (n : ℕ) (out o₁ o₂ : List ℕ) (r₁ r₂ : ℕ) →
+    printable (length s) places (length card) n (length out) ≡ true → length o₂ ≡ length out →
     Wrote out 0 cardHeader o₁ r₁ → Wrote o₁ r₁ (rowsText (namesAt s n places) card) o₂ r₂ → Printed out (cardPrinted s places card n (length out)) o₂ r₂
 unfolding cardPrinted cardText
 card-all s places card n out o₁ o₂ r₁ r₂ h same w₁ w₂ =

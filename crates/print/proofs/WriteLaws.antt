@@ -1,4 +1,4 @@
--- Bytes written one behind the other are bytes written at once. Assumes nothing.
+-- Bytes written one behind the other are bytes written at once.
 use mathlib.Core.Path.{_≡_, refl, sym, ap, _∙_}
 use mathlib.Core.List.{List, [], _∷_, _++_, append-assoc, append-nil}
 use Prim.Native.Nat.{ℕ, suc, _+_, _≤_, _<_}

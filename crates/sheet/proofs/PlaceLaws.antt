@@ -1,5 +1,5 @@
 -- In a well-formed text the numbers fill 18 a row, and each name's place lies inside the text and holds the name that
--- the grammar gives the row. Assumes nothing.
+-- the grammar gives the row.
 use mathlib.Core.Path.{_≡_, refl, sym, ap, ap₂, _∙_}
 use mathlib.Core.Bool.{Bool, true, false, cond, _&&_}
 use mathlib.Core.Logic.{⊎-elim}
@@ -21,7 +21,8 @@ use Rattle.line.proofs.RowLaws.{numbers-long}
 use Rattle.text.specs.declared.Reading.the-variants.{BadLine, Rows}
 use Rattle.text.specs.Grammar.{Row, rowOf, rowsOf}
 use Rattle.cursor.specs.Names.{nameAtPlace, namesAt}
-use Rattle.text.specs.Text.{lines, lineLength, afterLine, nextIsLine, goodLines, linesRead, sizeRight, headed, rowLines, reading, rowsRead, allNumbers, allPlaces, rowNumbers, rowPlaces}
+use Rattle.text.specs.Text.{lines, lineLength, afterLine, nextIsLine, goodLines, linesRead, sizeRight, headed, rowLines, reading, rowsRead}
+use Rattle.text.specs.Text.{allNumbers, allPlaces, rowNumbers, rowPlaces}
 use Rattle.text.proofs.GrammarNames.{name-sound}
 use Rattle.text.proofs.GrammarText.{cut-some}
 
@@ -45,7 +46,8 @@ name-inside l g =
     let n = name-sound (drop 1 rest) (and-right (isComma rest) (isName (drop 1 rest)) parts) in
     let e : drop 1 rest ≡ drop (digits l + 1) l = drop-drop 1 (digits l) l in
     let k : nameLength (drop (digits l + 1) l) ≤ length (drop (digits l + 1) l) = rw (← e) (n .inside) in
-    let long : length (take (nameLength (drop 1 rest)) (drop 1 rest)) ≡ nameLength (drop 1 rest) = length-take-le (nameLength (drop 1 rest)) (drop 1 rest) (n .inside) in
+    let long : length (take (nameLength (drop 1 rest)) (drop 1 rest)) ≡ nameLength (drop 1 rest) =
+    length-take-le (nameLength (drop 1 rest)) (drop 1 rest) (n .inside) in
     let some : 1 ≤ nameLength (drop (digits l + 1) l) = rw (← e) (rw long at (n .name .some)) in
     let most : nameLength (drop (digits l + 1) l) ≤ 24 = rw (← e) (rw long at (n .name .most)) in
     record { inside = omega (arith, length-drop (digits l + 1) l); short = most }
@@ -73,14 +75,16 @@ module _ (s : List ℕ) (i : ℕ) (h : i < length s) where
   cut =
       cut-some (drop i s) (omega (arith, length-drop i s)) ∙
       ap (λ (t : List ℕ). take (lineLength (drop i s)) (drop i s) ∷ lines t)
-      (drop-drop (lineLength (drop i s) + 2) i s ∙ ap (λ (k : ℕ). drop k s) (sym (add-assoc i (lineLength (drop i s)) 2) ∙ ap (λ (k : ℕ). i + k + 2) (sym line-long)))
+      (drop-drop (lineLength (drop i s) + 2) i s ∙
+      ap (λ (k : ℕ). drop k s) (sym (add-assoc i (lineLength (drop i s)) 2) ∙ ap (λ (k : ℕ). i + k + 2) (sym line-long)))
 
   -- the name's place in the text is its place in the line
   name-there : isLine line ≡ true → take (nameSize line) (drop (i + nameStart line) s) ≡ take (nameSize line) (drop (nameStart line) line)
   unfolding line
   name-there g =
       let n = name-inside line g in
-      sym (ap (take (nameSize line)) (drop-take (nameStart line) (lineLength (drop i s)) (drop i s) ∙ ap (take (lineLength (drop i s) - nameStart line)) (drop-drop (nameStart line) i s)) ∙
+      sym (ap (take (nameSize line))
+      (drop-take (nameStart line) (lineLength (drop i s)) (drop i s) ∙ ap (take (lineLength (drop i s) - nameStart line)) (drop-drop (nameStart line) i s)) ∙
       take-take (nameSize line) (lineLength (drop i s) - nameStart line) _ (omega (arith, n .inside, line-long)))
 
 -- the numbers of lines are 18 a line

@@ -17,7 +17,7 @@ use Rattle.line.specs.Line.{fieldCount}
 use Rattle.text.specs.declared.Reading.the-variants.{BadLine, Rows}
 use Rattle.cursor.specs.Names.{nameAtPlace, namesAt}
 use Rattle.text.specs.Text.{reading, rowNumbers, rowPlaces, over, blocksOver}
-use Rattle.print.specs.Card.{placeRight, printable, cardPrinted, refusalMost, refusalPrinted, Printed}
+use Rattle.print.specs.Card.{headerSize, lineMost, placeRight, printable, cardPrinted, refusalMost, refusalPrinted, Printed}
 use Rattle.print.specs.Write.{written}
 use Rattle.print.proofs.PrintLaws.{nothing-printed, wrote-printed}
 use Rattle.print.proofs.WriteLaws.{pasted-written, written-long}
@@ -86,7 +86,10 @@ module _ (s list names : List ℕ) (n room : ℕ) (r : RowsReady s list names n 
     can-print card e =
         let o = r .out-room in
         and-both
-        (and-both (and-both (and-both (le-leb 26 room (omega arith)) (le-leb n ((room - 26) / 89) (omega arith))) (le-leb n (length names / 2) (omega (arith, r .names-room))))
+        (and-both
+        (and-both
+        (and-both (le-leb headerSize room (omega arith)) (le-leb n ((room - headerSize) / lineMost) (omega arith)))
+        (le-leb n (length names / 2) (omega (arith, r .names-room))))
         (le-leb n (length card / 3) (omega arith)))
         (every-of (placeRight (length s) names) n
         (λ k h. rw names-is (right-front (length s) (rowPlaces s) _ k (omega (arith, stand .places-long)) (stand .inside k h))))
@@ -111,29 +114,38 @@ module _ (s list names : List ℕ) (n room : ℕ) (r : RowsReady s list names n 
           let q = rw (can-print card long, all-names) at p in
           rw (sheet-is, eq-eqb (getD g 0 0) 0 e) (record { numbers = refl; printed = q })
 
-      pub refusal-filled : (out out′ g′ : List ℕ) (bytes : ℕ) → (getD g 0 0 ≡ 0 → ⊥) → Filled (refusedWith g) out g′ bytes out′ → Filled (sheetOf s) out g′ bytes out′
+      pub refusal-filled :
+          (out out′ g′ : List ℕ) (bytes : ℕ) → (getD g 0 0 ≡ 0 → ⊥) → Filled (refusedWith g) out g′ bytes out′ → Filled (sheetOf s) out g′ bytes out′
       unfolding sheetWith
       refusal-filled out out′ g′ bytes e f = rw (sheet-is, ne-eqb (getD g 0 0) 0 e) f
 
   -- more than 256 rows
-  pub many-filled : (g out out′ g′ : List ℕ) (bytes : ℕ) → g ≡ givenBy answer.Count → 256 < n → Filled (refusedWith g) out g′ bytes out′ → Filled (sheetOf s) out g′ bytes out′
+  pub many-filled :
+      (g out out′ g′ : List ℕ) (bytes : ℕ) → g ≡ givenBy answer.Count → 256 < n →
+      Filled (refusedWith g) out g′ bytes out′ → Filled (sheetOf s) out g′ bytes out′
   unfolding sheetOf sheetBy sheetWith
   many-filled g out out′ g′ bytes q h f =
       rw (r .read, many-count s n (r .read) h) (rw q at f)
 
 -- a bad line
-pub bad-filled : (s : List ℕ) (line : ℕ) (g out out′ g′ : List ℕ) (bytes : ℕ) → reading s ≡ BadLine line → g ≡ givenBy (answer.Text line) → Filled (refusedWith g) out g′ bytes out′ → Filled (sheetOf s) out g′ bytes out′
+pub bad-filled :
+    (s : List ℕ) (line : ℕ) (g out out′ g′ : List ℕ) (bytes : ℕ) → reading s ≡ BadLine line → g ≡ givenBy (answer.Text line) →
+    Filled (refusedWith g) out g′ bytes out′ → Filled (sheetOf s) out g′ bytes out′
 unfolding sheetOf sheetBy
 bad-filled s line g out out′ g′ bytes e q f = rw e (rw q at f)
 
 -- a refusal in a buffer with room for any sheet
-pub refused-filled : (g out out′ : List ℕ) (bytes : ℕ) → sheetMost ≤ length out → Printed out (refusalPrinted g (length out)) out′ bytes → Filled (refusedWith g) out g bytes out′
+pub refused-filled :
+    (g out out′ : List ℕ) (bytes : ℕ) → sheetMost ≤ length out →
+    Printed out (refusalPrinted g (length out)) out′ bytes → Filled (refusedWith g) out g bytes out′
 unfolding refusalPrinted
 refused-filled g out out′ bytes h p = record { numbers = refl; printed = rw (le-leb refusalMost (length out) (omega arith)) at p }
 
 -- what was printed aside goes into a lent buffer whole, or not at all
 module _ (z : Sheet) (space space′ g : List ℕ) (bytes : ℕ) (f : Filled z space g bytes space′) (out : List ℕ) where
-  pub fits-filled : (out′ : List ℕ) → bytes ≤ length out → out′ ≡ paste out 0 (take bytes space′) (length (take bytes space′)) → Filled (fitted (length out) z) out g bytes out′
+  pub fits-filled :
+      (out′ : List ℕ) → bytes ≤ length out →
+      out′ ≡ paste out 0 (take bytes space′) (length (take bytes space′)) → Filled (fitted (length out) z) out g bytes out′
   unfolding fitted
   fits-filled out′ h e =
       let k = f .printed .count in

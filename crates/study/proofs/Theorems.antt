@@ -1,5 +1,5 @@
 -- The public theorems on the study's currents [01 §5], over the definitions that `convert` is proved against. Each is proved by citing a law, or by
--- computing. Assumes nothing.
+-- computing.
 use Prim.Native.Nat.{ℕ, suc, _*_, _^_, _≤_, _<_}
 use native.Mathlib.Nat.{mul-one}
 use mathlib.Core.Path.{_≡_, refl, sym, _∙_, subst}
@@ -52,7 +52,8 @@ fraction-rounded to m t scale k h = subst (λ (n : ℕ). Rounds to (n * scale) (
 
 pub whole-number-kept : (to : Rounding) (m t scale k : ℕ) → currentOf to (fin false m (pos t)) scale ≡ Milliamperes k → k ≡ m * 2 ^ t * scale
 whole-number-kept to m t scale k h =
-    round.rounds-unique to (m * 2 ^ t * scale) 1 k (m * 2 ^ t * scale) (given-sound to (fin false m (pos t)) scale k h .1) (round.whole-number to (m * 2 ^ t * scale))
+    round.rounds-unique to (m * 2 ^ t * scale) 1 k (m * 2 ^ t * scale)
+    (given-sound to (fin false m (pos t)) scale k h .1) (round.whole-number to (m * 2 ^ t * scale))
 
 -- ---- refused at any scale and in either direction: every NaN pattern, both infinities, negative numbers, both zeros
 

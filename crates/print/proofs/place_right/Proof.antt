@@ -1,5 +1,5 @@
 -- `place_right` meets its contract: at each return the tests that led there decide `placeRight`.
--- Assumes nothing.
+--
 use denote.Ref.{now}
 use borrow.Author.Needs.{needs}
 use Rattle.print.proofs.PlaceLaws.{place-long, place-outside, place-ends}

@@ -1,5 +1,5 @@
 -- `places_right` meets its contract. The loop's invariant: every name before i stands right. The measure is the number left.
--- Assumes nothing.
+--
 use mathlib.Core.Path.{_≡_, refl, sym, _∙_}
 use mathlib.Core.Bool.{true}
 use Prim.Native.Nat.{_-_, _≤_}
@@ -31,7 +31,9 @@ place-right-requires c κs = omega (arith, c .loop-test .taken, c .before .befor
 returns : tie.Need-returns Inv-loop μ-loop
 returns c =
     let a = c .before .before .before .before .before .args in
-    sym (every-fails (placeRight (a .size) (now (a .names))) (a .n) (c .before .before .before .loop .i) (c .before .before .loop-test .taken) (sym (c .before .place-right .ensures) ∙ not-true _ (c .if1 .taken)))
+    sym
+    (every-fails (placeRight (a .size) (now (a .names))) (a .n) (c .before .before .before .loop .i) (c .before .before .loop-test .taken)
+    (sym (c .before .place-right .ensures) ∙ not-true _ (c .if1 .taken)))
 
 add-i : tie.Need-add-i Inv-loop μ-loop
 add-i c = search needs
@@ -43,8 +45,11 @@ loop-again : tie.Need-loop-again Inv-loop μ-loop
 unfolding every
 loop-again c =
     let a = c .before .before .before .before .before .args in
-    let l = c .before .before .before .loop in
-    (omega (arith, c .before .before .loop-test .taken), rw (add-one (l .i)) (and-both (l .inv .1) (sym (c .before .place-right .ensures) ∙ not-false _ (c .if1 .left))))
+    let l = c .before .before .before .loop in (
+      omega (arith, c .before .before .loop-test .taken),
+      rw (add-one (l .i))
+          (and-both (l .inv .1) (sym (c .before .place-right .ensures) ∙ not-false _ (c .if1 .left))),
+    )
 
 returns-2 : tie.Need-returns-2 Inv-loop μ-loop
 returns-2 c =

@@ -59,8 +59,18 @@ put-end-requires c κs =
     let numbers = roomy (headed first) .before .before .args .t1 in
     let n = number-few (getD numbers 0 0) in
     let m = fields-short 2 (drop 1 numbers) in
-    omega
-    (arith, h, n, m, header .ensures .end, header .kept .0, first .put-number .ensures .end, first .put-number .kept .0, fields .put-fields .ensures .end, fields .put-fields .kept .0)
+    omega (
+      arith,
+      h,
+      n,
+      m,
+      header .ensures .end,
+      header .kept .0,
+      first .put-number .ensures .end,
+      first .put-number .kept .0,
+      fields .put-fields .ensures .end,
+      fields .put-fields .kept .0,
+    )
 
 same-length : tie.Need-same-length
 same-length c = search needs

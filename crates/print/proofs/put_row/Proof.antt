@@ -1,5 +1,5 @@
 -- `put_row` meets its contract: the part of the text that is lent is the name at its place.
--- Assumes nothing.
+--
 use Prim.Native.Nat.{_+_, _*_}
 use native.Mathlib.Omega.{arith}
 use lib.ListN.{getD, length}
@@ -29,9 +29,11 @@ shared-slice-read-end c = search needs
 
 add-end-2 : tie.Need-add-end-2
 add-end-2 c =
-    let a = c .before .before .before .before .before .before .args in
-    let w = place-was (length (now (a .text))) (now (a .names)) (a .i) (c .before .before .before .before .before .before .pre .right) in
-    omega (arith, w .inside, c .before .before .before .before .before .before .good)
+    let at-5 = c .before .before .before .before .before in
+    let start = at-5 .before in
+    let a = start .args in
+    let w = place-was (length (now (a .text))) (now (a .names)) (a .i) (start .pre .right) in
+    omega (arith, w .inside, start .good)
 
 sub-put-line : tie.Need-sub-put-line
 sub-put-line c = search needs
@@ -41,8 +43,10 @@ part-put-line-start c = search needs
 
 part-put-line-end : tie.Need-part-put-line-end
 part-put-line-end c =
-    let a = c .before .before .before .before .before .before .before .args in
-    let w = place-was (length (now (a .text))) (now (a .names)) (a .i) (c .before .before .before .before .before .before .before .pre .right) in
+    let at-5 = c .before .before .before .before .before in
+    let start = at-5 .before .before in
+    let a = start .args in
+    let w = place-was (length (now (a .text))) (now (a .names)) (a .i) (start .pre .right) in
     w .inside
 
 mul-put-line : tie.Need-mul-put-line
@@ -50,9 +54,11 @@ mul-put-line c = search needs
 
 put-line-requires : tie.Need-put-line-requires
 put-line-requires c κs =
-    let a = c .before .before .before .before .before .before .before .before .args in
-    let w = place-was (length (now (a .text))) (now (a .names)) (a .i) (c .before .before .before .before .before .before .before .before .pre .right) in
-    let p = c .before .before .before .before .before .before .before .before .pre in
+    let at-5 = c .before .before .before .before .before in
+    let start = at-5 .before .before .before in
+    let a = start .args in
+    let w = place-was (length (now (a .text))) (now (a .names)) (a .i) (start .pre .right) in
+    let p = start .pre in
     let k = part-short (now (a .text)) (getD (now (a .names)) (a .i * 2) 0) (getD (now (a .names)) (a .i * 2 + 1) 0) in
     (omega (arith, k, w .short, p .out-room), p .numbers)
 
@@ -61,8 +67,11 @@ same-length c = search needs
 
 returns : tie.Need-returns
 returns c =
-    let a = c .before .before .before .before .before .before .before .before .before .before .before .args in
-    rw (← name-part (now (a .text)) (now (a .names)) (a .i)) (c .before .before .put-line .ensures)
+    let at-put-line = c .before .before in
+    let at-7 = at-put-line .before .before .before .before .before in
+    let start = at-7 .before .before .before .before in
+    let a = start .args in
+    rw (← name-part (now (a .text)) (now (a .names)) (a .i)) (at-put-line .put-line .ensures)
 
 pub put-row-spec : {M : Type 1} → statement M
 put-row-spec =

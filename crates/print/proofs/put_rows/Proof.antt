@@ -1,5 +1,5 @@
 -- `put_rows` meets its contract. The loop's invariant: the rows written and those left make up all. The measure is the number left.
--- Assumes nothing.
+--
 use Prim.Native.Nat.{_-_}
 use denote.Ref.{now}
 use borrow.Author.Needs.{needs}
@@ -20,9 +20,13 @@ loop-holds c =
 
 put-row-requires : tie.Need-put-row-requires Inv-loop μ-loop
 put-row-requires c κs =
-    let a = c .before .before .before .before .before .before .before .args in
-    let l = c .before .before .loop in
-    row-fits (now (a .text)) (now (a .names)) (now (a .card)) (a .n) (now (a .out)) (a .at) (l .out) (l .next) (l .i) (c .before .before .before .before .before .before .before .pre) (l .inv) (c .before .loop-test .taken)
+    let at-loop-test = c .before in
+    let at-loop = at-loop-test .before in
+    let start = at-loop .before .before .before .before .before in
+    let a = start .args in
+    let l = at-loop .loop in
+    row-fits (now (a .text)) (now (a .names)) (now (a .card)) (a .n) (now (a .out)) (a .at) (l .out) (l .next) (l .i) (start .pre) (l .inv)
+    (at-loop-test .loop-test .taken)
 
 add-i : tie.Need-add-i Inv-loop μ-loop
 add-i c = search needs
@@ -32,18 +36,26 @@ loop-less c = search needs
 
 loop-again : tie.Need-loop-again Inv-loop μ-loop
 loop-again c =
-    let a = c .before .before .before .before .before .before .before .before .before .before .args in
-    let l = c .before .before .before .before .before .loop in
-    partly-more (now (a .text)) (now (a .names)) (now (a .card)) (a .n) (now (a .out)) (a .at) (l .out) (l .next) (l .i) (c .before .before .before .before .before .before .before .before .before .before .pre) (l .inv) _ _ (c .before .before .before .before .loop-test .taken) (c .before .before .put-row .ensures) (c .before .before .put-row .kept .0)
+    let at-put-row = c .before .before in
+    let at-loop-test = at-put-row .before .before in
+    let at-loop = at-loop-test .before in
+    let start = at-loop .before .before .before .before .before in
+    let a = start .args in
+    let l = at-loop .loop in
+    partly-more (now (a .text)) (now (a .names)) (now (a .card)) (a .n) (now (a .out)) (a .at) (l .out) (l .next) (l .i) (start .pre) (l .inv) _ _
+    (at-loop-test .loop-test .taken) (at-put-row .put-row .ensures) (at-put-row .put-row .kept .0)
 
 same-length : tie.Need-same-length Inv-loop μ-loop
 same-length c = c .before .loop .inv .long
 
 returns : tie.Need-returns Inv-loop μ-loop
 returns c =
-    let a = c .before .before .before .before .before .before .args in
-    let l = c .before .loop in
-    partly-all (now (a .text)) (now (a .names)) (now (a .card)) (a .n) (now (a .out)) (a .at) (l .out) (l .next) (l .i) (c .before .before .before .before .before .before .pre) (l .inv) (c .loop-test .left)
+    let at-loop = c .before in
+    let start = at-loop .before .before .before .before .before in
+    let a = start .args in
+    let l = at-loop .loop in
+    partly-all (now (a .text)) (now (a .names)) (now (a .card)) (a .n) (now (a .out)) (a .at) (l .out) (l .next) (l .i) (start .pre) (l .inv)
+    (c .loop-test .left)
 
 pub put-rows-spec : {M : Type 1} → statement M
 put-rows-spec =

@@ -21,7 +21,8 @@ returns c =
     let refused = c .before .before in
     let counted = refused .before .before in
     let many = counted .before in
-    many-filled _ _ _ _ _ (many .before .before .before .before .before .pre) _ _ _ _ _ (counted .numbers .ensures) (many .if1 .taken) (refused .refuse .ensures)
+    many-filled _ _ _ _ _ (many .before .before .before .before .before .pre) _ _ _ _ _ (counted .numbers .ensures) (many .if1 .taken)
+    (refused .refuse .ensures)
 
 mul-end : tie.Need-mul-end
 mul-end c = search needs

@@ -58,7 +58,8 @@ returns c =
     let refused = c .before .before in
     let known = refused .before .before .before .before in
     let read = known .before .before .before .before in
-    bad-filled _ _ _ _ _ _ _ (sym (read .read-text .ensures .answer) ∙ known .read .given .1) (refused .before .before .numbers .ensures) (refused .refuse .ensures)
+    bad-filled _ _ _ _ _ _ _ (sym (read .read-text .ensures .answer) ∙ known .read .given .1) (refused .before .before .numbers .ensures)
+    (refused .refuse .ensures)
 
 same-length-2 : tie.Need-same-length-2
 same-length-2 c = search needs

@@ -1,5 +1,5 @@
 -- `study::convert` meets its contract: by what the two tests of the rated currents found, `convertOf` is the refusal or the answer for the two
--- currents that the calls give. Assumes nothing.
+-- currents that the calls give.
 use mathlib.Core.Path.{_≡_, refl, sym, ap, _∙_}
 use mathlib.Core.Bool.{Bool, true, false, _&&_, cond}
 use denote.Floats.{passes}
@@ -40,14 +40,21 @@ refused-requires-2 c κs = search needs
 greatest-fits : (c : tie.Else1) → ratedFits (c .before .before .before .before .args .s .greatest) ≡ true
 greatest-fits c = sym (c .before .rated-fits .ensures) ∙ not-false _ (c .if1 .left)
 
-least-fits : (c : tie.Else2) → ratedFits (c .before .before .before .before .before .before .args .s .least) ≡ true
+abbrev start : tie.Else2 → tie.Start
+start c = c .before .before .before .before .before .before
+
+least-fits : (c : tie.Else2) → ratedFits (start c .args .s .least) ≡ true
 least-fits c = sym (c .before .rated-fits2 .ensures) ∙ not-false _ (c .if2 .left)
 
 returns-2 : tie.Need-returns-2
 returns-2 c =
-    let s = c .before .before .before .before .before .before .before .args .s in
-    let least-unfit = sym (c .before .before .rated-fits2 .ensures) ∙ not-true _ (c .before .if2 .taken) in
-    c .refused2 .ensures ∙ sym (by-rated s true false (greatest-fits (c .before .before .before)) least-unfit)
+    let at-if2 = c .before in
+    let at-rated-fits2 = at-if2 .before in
+    let at-place = at-rated-fits2 .before in
+    let start = at-place .before .before .before .before in
+    let s = start .args .s in
+    let least-unfit = sym (at-rated-fits2 .rated-fits2 .ensures) ∙ not-true _ (at-if2 .if2 .taken) in
+    c .refused2 .ensures ∙ sym (by-rated s true false (greatest-fits (at-place)) least-unfit)
 
 reading-current-requires : tie.Need-reading-current-requires
 reading-current-requires c κs = passes _ (greatest-fits (c .before .before))
@@ -60,12 +67,17 @@ answer-requires c κs = search needs
 
 returns-3 : tie.Need-returns-3
 returns-3 c =
-    let s = c .before .before .before .before .before .before .before .before .before .args .s in
-    let greatest = c .before .before .reading-current in
+    let at-reading-current2 = c .before in
+    let at-reading-current = at-reading-current2 .before in
+    let at-place = at-reading-current .before in
+    let at-place′ = at-place .before .before in
+    let start = at-place′ .before .before .before .before in
+    let s = start .args .s in
+    let greatest = at-reading-current .reading-current in
     c .answer .ensures
-    ∙ ap (λ (l : Current). answerOf (greatest .result) l) (c .before .reading-current2 .ensures)
+    ∙ ap (λ (l : Current). answerOf (greatest .result) l) (at-reading-current2 .reading-current2 .ensures)
     ∙ ap (λ (g : Current). answerOf g (readingOf Down (s .least))) (greatest .ensures)
-    ∙ sym (by-rated s true true (greatest-fits (c .before .before .before .before .before)) (least-fits (c .before .before .before)))
+    ∙ sym (by-rated s true true (greatest-fits (at-place′)) (least-fits (at-place)))
 
 pub convert-spec : {M : Type 1} → statement M
 convert-spec =

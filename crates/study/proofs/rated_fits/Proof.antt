@@ -1,4 +1,4 @@
--- `study::rated_fits` meets its contract: each arm is the case that `needed` has for its unit. Assumes nothing.
+-- `study::rated_fits` meets its contract: each arm is the case that `needed` has for its unit.
 use mathlib.Core.Path.{sym, ap, _∙_}
 use mathlib.Core.Bool.{not, _||_}
 use borrow.Author.Needs.{needs}

@@ -1,4 +1,4 @@
--- `study::reading_current` meets its contract: each arm hands on the single and the scale that `readingOf` has for its unit. Assumes nothing.
+-- `study::reading_current` meets its contract: each arm hands on the single and the scale that `readingOf` has for its unit.
 use mathlib.Core.Path.{_≡_, sym, ap, subst, _∙_}
 use mathlib.Core.Bool.{not, _||_}
 use lib.Dec.{T}
@@ -12,7 +12,9 @@ use Rattle.study.specs.Currents.{needed, singleOf, scaleOf, readingOf}
 use Rattle.study.proofs.reading_current.Statement.{statement}
 use Rattle.study.proofs.reading_current.Tie as tie
 
-in-unit : (to : Rounding) (r : Reading) {q : Quantity} {k : Current} → r .quantity ≡ q → k ≡ currentOf to (singleOf q) (scaleOf q (r .rated)) → k ≡ readingOf to r
+in-unit :
+    (to : Rounding) (r : Reading) {q : Quantity} {k : Current} →
+    r .quantity ≡ q → k ≡ currentOf to (singleOf q) (scaleOf q (r .rated)) → k ≡ readingOf to r
 in-unit to r e h = h ∙ ap (λ (q : Quantity). currentOf to (singleOf q) (scaleOf q (r .rated))) (sym e)
 
 enum-known-quantity : tie.Need-enum-known-quantity

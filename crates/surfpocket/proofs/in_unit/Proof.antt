@@ -1,4 +1,4 @@
--- `surfpocket::in_unit` meets its contract: each arm is the case that `unitOf` has for the unit's number. Assumes nothing.
+-- `surfpocket::in_unit` meets its contract: each arm is the case that `unitOf` has for the unit's number.
 use Prim.Native.Nat.{ℕ}
 use borrow.Author.Tests.{ne-eqb}
 use lib.Ieee.{Float}

@@ -1,5 +1,5 @@
 -- The proof of the cycle of calls {put_number}. The number without its last digit is written first; the measure is the number.
--- Assumes nothing.
+--
 use Prim.Native.Nat.{_/_, ℕ, _<_}
 use native.Mathlib.Omega.{arith}
 use lib.ListN.{length-set}
@@ -81,20 +81,26 @@ put-number-slice-write-out-2 : (t : ℕ) → put-number-lts.Need-slice-write-out
   put-number.Post,
 ) (put-number-at t) put-number.Post
 put-number-slice-write-out-2 t c =
-    let a = c .before .before .before .before .before .before .args in
-    let s = number-shorter (a .v) (c .before .before .before .before .if1 .left) (c .before .before .before .before .before .before .fits .v .fits) in
-    let w = c .before .before .put-number .ensures in
-    omega (arith, s, w .end, c .before .before .put-number .kept .0, c .before .before .before .before .before .before .pre .1)
+    let at-put-number = c .before .before in
+    let at-if1 = at-put-number .before .before in
+    let start = at-if1 .before .before in
+    let a = start .args in
+    let s = number-shorter (a .v) (at-if1 .if1 .left) (start .fits .v .fits) in
+    let w = at-put-number .put-number .ensures in
+    omega (arith, s, w .end, at-put-number .put-number .kept .0, start .pre .1)
 
 put-number-add-result-2 : (t : ℕ) → put-number-lts.Need-add-result-2 (
   put-number-below t,
   put-number.Post,
 ) (put-number-at t) put-number.Post
 put-number-add-result-2 t c =
-    let a = c .before .before .before .before .before .before .args in
-    let s = number-shorter (a .v) (c .before .before .before .before .if1 .left) (c .before .before .before .before .before .before .fits .v .fits) in
-    let w = c .before .before .put-number .ensures in
-    omega (arith, s, w .end, c .before .before .before .before .before .before .pre .1, c .before .before .before .before .before .before .good .0)
+    let at-put-number = c .before .before in
+    let at-if1 = at-put-number .before .before in
+    let start = at-if1 .before .before in
+    let a = start .args in
+    let s = number-shorter (a .v) (at-if1 .if1 .left) (start .fits .v .fits) in
+    let w = at-put-number .put-number .ensures in
+    omega (arith, s, w .end, start .pre .1, start .good .0)
 
 put-number-same-length-2 : (t : ℕ) → put-number-lts.Need-same-length-2 (
   put-number-below t,
@@ -108,13 +114,16 @@ put-number-returns-2 : (t : ℕ) → put-number-lts.Need-returns-2 (
 ) (put-number-at t) put-number.Post
 unfolding lastDigit
 put-number-returns-2 t c =
-    let a = c .before .before .before .before .before .before .args in
-    let f = c .before .before .before .before .before .before .fits .v .fits in
-    let s = number-shorter (a .v) (c .before .before .before .before .if1 .left) f in
-    let w = c .before .before .put-number .ensures in
-    rw (number-more (a .v) (c .before .before .before .before .if1 .left) f)
-    (wrote-then (now (a .out)) (a .at) (numberText (a .v / 10)) _ (c .before .before .put-number .result) _ _ _ (omega (arith, s, c .before .before .before .before .before .before .pre .1)) w
-    (wrote-one _ (c .before .before .put-number .result) _ (omega (arith, s, w .end, c .before .before .put-number .kept .0, c .before .before .before .before .before .before .pre .1))))
+    let at-put-number = c .before .before in
+    let at-if1 = at-put-number .before .before in
+    let start = at-if1 .before .before in
+    let a = start .args in
+    let f = start .fits .v .fits in
+    let s = number-shorter (a .v) (at-if1 .if1 .left) f in
+    let w = at-put-number .put-number .ensures in
+    rw (number-more (a .v) (at-if1 .if1 .left) f)
+    (wrote-then (now (a .out)) (a .at) (numberText (a .v / 10)) _ (at-put-number .put-number .result) _ _ _ (omega (arith, s, start .pre .1)) w
+    (wrote-one _ (at-put-number .put-number .result) _ (omega (arith, s, w .end, at-put-number .put-number .kept .0, start .pre .1))))
 
 pub +put-number-spec : {M : Type 1} → statement M
 +put-number-spec = close μ-put-number λ t. put-number-lts.spec (

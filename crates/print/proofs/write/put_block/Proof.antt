@@ -1,4 +1,4 @@
--- `put_block` meets its contract: the block is copied, and the place behind it given. Assumes nothing.
+-- `put_block` meets its contract: the block is copied, and the place behind it given.
 use borrow.Author.Needs.{needs}
 use mathlib.Core.Path.{refl, _∙_}
 use Rattle.print.proofs.WriteLaws.{pasted-written}

@@ -1,5 +1,5 @@
 -- `put_end` meets its contract: CR, and LF behind it.
--- Assumes nothing.
+--
 use mathlib.Core.List.{[], _∷_}
 use Prim.Native.Nat.{_+_}
 use native.Mathlib.Omega.{arith}

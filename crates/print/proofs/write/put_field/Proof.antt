@@ -1,5 +1,5 @@
 -- `put_field` meets its contract: a comma, and a number behind it.
--- Assumes nothing.
+--
 use mathlib.Core.Path.{_∙_}
 use mathlib.Core.List.{[], _∷_}
 use Prim.Native.Nat.{_+_}

@@ -29,9 +29,12 @@ shared-slice-read-put-field c = search needs
 
 put-field-requires : tie.Need-put-field-requires Inv-loop μ-loop
 put-field-requires c κs =
-    let a = c .before .before .before .before .before .before .args in
-    let l = c .before .before .before .loop in
-    omega (arith, l .inv .long, l .inv .short, l .inv .wrote .end, c .before .before .loop-test .taken, c .before .before .before .before .before .before .pre .0)
+    let at-loop-test = c .before .before in
+    let at-loop = at-loop-test .before in
+    let start = at-loop .before .before .before in
+    let a = start .args in
+    let l = at-loop .loop in
+    omega (arith, l .inv .long, l .inv .short, l .inv .wrote .end, at-loop-test .loop-test .taken, start .pre .0)
 
 add-k : tie.Need-add-k Inv-loop μ-loop
 add-k c = search needs
@@ -41,9 +44,14 @@ loop-less c = search needs
 
 loop-again : tie.Need-loop-again Inv-loop μ-loop
 loop-again c =
-    let a = c .before .before .before .before .before .before .before .before .before .args in
-    let l = c .before .before .before .before .before .before .loop in
-    partly-more (a .count) (now (a .out)) (a .at) (now (a .values)) (a .from) (l .out) (l .next) (l .k) (l .inv) _ _ (c .before .before .before .before .before .loop-test .taken) (c .before .before .before .before .before .before .before .before .before .pre .0) (c .before .before .put-field .ensures) (c .before .before .put-field .kept .0)
+    let at-put-field = c .before .before in
+    let at-loop-test = at-put-field .before .before .before in
+    let at-loop = at-loop-test .before in
+    let start = at-loop .before .before .before in
+    let a = start .args in
+    let l = at-loop .loop in
+    partly-more (a .count) (now (a .out)) (a .at) (now (a .values)) (a .from) (l .out) (l .next) (l .k) (l .inv) _ _ (at-loop-test .loop-test .taken)
+    (start .pre .0) (at-put-field .put-field .ensures) (at-put-field .put-field .kept .0)
 
 same-length : tie.Need-same-length Inv-loop μ-loop
 same-length c = c .before .loop .inv .long

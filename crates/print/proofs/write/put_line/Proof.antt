@@ -1,5 +1,5 @@
 -- `put_line` meets its contract: name, fields and CRLF are written one behind the other.
--- Assumes nothing.
+--
 use mathlib.Core.List.{_++_}
 use native.Mathlib.Omega.{arith}
 use lib.ListN.{drop, length-append}
@@ -19,9 +19,20 @@ put-fields-requires c κs = search needs
 
 put-end-requires : tie.Need-put-end-requires
 put-end-requires c κs =
-    let a = c .before .before .before .before .before .before .before .before .before .before .before .before .args in
+    let at-put-fields = c .before .before .before in
+    let at-put-block = at-put-fields .before .before .before .before in
+    let start = at-put-block .before .before .before .before .before in
+    let a = start .args in
     let s = fields-short 3 (drop (a .from) (now (a .card))) in
-    omega (arith, s, c .before .before .before .before .before .before .before .put-block .ensures .end, c .before .before .before .put-fields .ensures .end, c .before .before .before .before .before .before .before .put-block .kept .0, c .before .before .before .put-fields .kept .0, c .before .before .before .before .before .before .before .before .before .before .before .before .pre .0)
+    omega (
+      arith,
+      s,
+      at-put-block .put-block .ensures .end,
+      at-put-fields .put-fields .ensures .end,
+      at-put-block .put-block .kept .0,
+      at-put-fields .put-fields .kept .0,
+      start .pre .0,
+    )
 
 same-length : tie.Need-same-length
 same-length c = search needs
@@ -29,13 +40,18 @@ same-length c = search needs
 returns : tie.Need-returns
 unfolding lineText
 returns c =
-    let a = c .before .before .before .before .before .before .before .before .before .before .before .before .before .before .before .args in
+    let at-put-end = c .before .before in
+    let at-put-fields = at-put-end .before .before .before .before in
+    let at-put-block = at-put-fields .before .before .before .before in
+    let start = at-put-block .before .before .before .before .before in
+    let a = start .args in
     let f = fieldsText 3 (drop (a .from) (now (a .card))) in
     let s = fields-short 3 (drop (a .from) (now (a .card))) in
     let n = length-append (now (a .name)) f in
-    wrote-then (now (a .out)) (a .at) (now (a .name) ++ f) _ (c .before .before .before .before .before .before .put-fields .result) lineEnd _ _ (omega (arith, s, n, c .before .before .before .before .before .before .before .before .before .before .before .before .before .before .before .pre .0))
-    (wrote-then (now (a .out)) (a .at) (now (a .name)) _ (c .before .before .before .before .before .before .before .before .before .before .put-block .result) f _ _ (omega (arith, s, c .before .before .before .before .before .before .before .before .before .before .before .before .before .before .before .pre .0)) (c .before .before .before .before .before .before .before .before .before .before .put-block .ensures) (c .before .before .before .before .before .before .put-fields .ensures))
-    (c .before .before .put-end .ensures)
+    wrote-then (now (a .out)) (a .at) (now (a .name) ++ f) _ (at-put-fields .put-fields .result) lineEnd _ _ (omega (arith, s, n, start .pre .0))
+    (wrote-then (now (a .out)) (a .at) (now (a .name)) _ (at-put-block .put-block .result) f _ _ (omega (arith, s, start .pre .0))
+    (at-put-block .put-block .ensures) (at-put-fields .put-fields .ensures))
+    (at-put-end .put-end .ensures)
 
 pub put-line-spec : {M : Type 1} → statement M
 put-line-spec =
