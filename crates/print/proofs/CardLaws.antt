@@ -5,11 +5,12 @@ use Prim.Native.Nat.{ℕ, suc, _+_, _-_, _*_, _≤_, _<_}
 use native.Mathlib.Omega.{arith}
 use lib.ListN.{length, take, drop, getD, length-append, length-take}
 use lib.Seq.{drop-drop, getD-drop}
+use Rattle.layout.specs.Counts.{columnCount}
 use Rattle.fold.proofs.FoldLaws.{every-at}
 use Rattle.cursor.specs.Pieces.{nameMost}
 use Rattle.cursor.specs.Names.{nameAtPlace, namesAt}
 use Rattle.print.specs.Write.{Wrote}
-use Rattle.print.specs.Card.{cardCount, lineMost, lineEnd, fieldsText, lineText, rowsText, placeRight, RowsFit, RowFits}
+use Rattle.print.specs.Card.{lineMost, lineEnd, fieldsText, lineText, rowsText, placeRight, RowsFit, RowFits}
 use Rattle.print.proofs.FieldsLaws.{fields-short}
 use Rattle.print.proofs.PlaceLaws.{place-was}
 use Rattle.print.proofs.WriteLaws.{written-none, wrote-then}
@@ -21,8 +22,8 @@ unfolding lineText nameAtPlace
 line-short s places card i h =
     let n = take (getD (drop (i * 2) places) 1 0) (drop (getD (drop (i * 2) places) 0 0) s) in
     let k = length-take (getD (drop (i * 2) places) 1 0) (drop (getD (drop (i * 2) places) 0 0) s) in
-    let f = fieldsText cardCount card in
-    omega (arith, k, getD-drop (i * 2) places 1 0, fields-short cardCount card, length-append (n ++ f) lineEnd, length-append n f)
+    let f = fieldsText columnCount card in
+    omega (arith, k, getD-drop (i * 2) places 1 0, fields-short columnCount card, length-append (n ++ f) lineEnd, length-append n f)
 
 -- i of n rows are written
 pub record Partly (s places card : List ℕ) (n : ℕ) (out : List ℕ) (at : ℕ) (out′ : List ℕ) (next i : ℕ) : Type 0 where
@@ -30,7 +31,7 @@ pub record Partly (s places card : List ℕ) (n : ℕ) (out : List ℕ) (at : �
   pub few : i ≤ n
   pub short : length done ≤ i * lineMost
   pub wrote : Wrote out at done out′ next
-  pub left : done ++ rowsText (namesAt s (n - i) (drop (i * 2) places)) (drop (i * cardCount) card) ≡ rowsText (namesAt s n places) card
+  pub left : done ++ rowsText (namesAt s (n - i) (drop (i * 2) places)) (drop (i * columnCount) card) ≡ rowsText (namesAt s n places) card
   pub long : length out′ ≡ length out
 
 pub partly-none : (s places card : List ℕ) (n : ℕ) (out : List ℕ) (at : ℕ) → Partly s places card n out at out at 0
@@ -59,24 +60,24 @@ module _
 
   next-row :
       i < n →
-      rowsText (namesAt s (n - i) (drop (i * 2) places)) (drop (i * cardCount) card) ≡
-      lineText (nameAtPlace s (drop (i * 2) places)) (drop (i * cardCount) card) ++
-      rowsText (namesAt s (n - (i + 1)) (drop ((i + 1) * 2) places)) (drop ((i + 1) * cardCount) card)
+      rowsText (namesAt s (n - i) (drop (i * 2) places)) (drop (i * columnCount) card) ≡
+      lineText (nameAtPlace s (drop (i * 2) places)) (drop (i * columnCount) card) ++
+      rowsText (namesAt s (n - (i + 1)) (drop ((i + 1) * 2) places)) (drop ((i + 1) * columnCount) card)
   unfolding rowsText namesAt
   next-row l =
       let e : n - i ≡ suc (n - (i + 1)) = omega arith in
       let a : i * 2 + 2 ≡ (i + 1) * 2 = omega arith in
-      let b : i * cardCount + cardCount ≡ (i + 1) * cardCount = omega arith in
-      rw (e, drop-drop 2 (i * 2) places, drop-drop cardCount (i * cardCount) card, a, b)
+      let b : i * columnCount + columnCount ≡ (i + 1) * columnCount = omega arith in
+      rw (e, drop-drop 2 (i * 2) places, drop-drop columnCount (i * columnCount) card, a, b)
 
   pub partly-more :
-      (out″ : List ℕ) (r : ℕ) → i < n → Wrote out′ next (lineText (nameAtPlace s (drop (i * 2) places)) (drop (i * cardCount) card)) out″ r →
+      (out″ : List ℕ) (r : ℕ) → i < n → Wrote out′ next (lineText (nameAtPlace s (drop (i * 2) places)) (drop (i * columnCount) card)) out″ r →
       length out″ ≡ length out′ → Partly s places card n out at out″ r (i + 1)
   partly-more out″ r l w same =
-      let f : List ℕ = lineText (nameAtPlace s (drop (i * 2) places)) (drop (i * cardCount) card) in
+      let f : List ℕ = lineText (nameAtPlace s (drop (i * 2) places)) (drop (i * columnCount) card) in
       let right = every-at (placeRight (length s) places) n i (fit .right) l in
-      let k = line-short s places (drop (i * cardCount) card) i (place-was (length s) places i right .short) in
-      let rest = rowsText (namesAt s (n - (i + 1)) (drop ((i + 1) * 2) places)) (drop ((i + 1) * cardCount) card) in
+      let k = line-short s places (drop (i * columnCount) card) i (place-was (length s) places i right .short) in
+      let rest = rowsText (namesAt s (n - (i + 1)) (drop ((i + 1) * 2) places)) (drop ((i + 1) * columnCount) card) in
       let a = length-append (h .done) f in
       record {
         done = h .done ++ f;

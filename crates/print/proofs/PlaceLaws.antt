@@ -9,12 +9,13 @@ use lib.Dec.{leb}
 use lib.ListN.{length, take, drop, getD, length-take}
 use lib.Seq.{getD-drop}
 use borrow.Author.Tests.{le-leb, lt-leb, leb-true}
+use Rattle.layout.specs.Counts.{columnCount}
 use Rattle.fold.specs.Fold.{every}
 use Rattle.fold.proofs.BoolLaws.{and-left, and-right, not-both, fails}
 use Rattle.fold.proofs.FoldLaws.{every-at}
 use Rattle.cursor.specs.Pieces.{nameMost}
 use Rattle.cursor.specs.Names.{nameAtPlace}
-use Rattle.print.specs.Card.{cardCount, headerSize, lineMost, placeRight, printable, RowsFit}
+use Rattle.print.specs.Card.{headerSize, lineMost, placeRight, printable, RowsFit}
 
 module _ (size : ℕ) (places : List ℕ) (i : ℕ) where
   pub place-long : nameMost < getD places (i * 2 + 1) 0 → false ≡ placeRight size places i
@@ -74,14 +75,14 @@ printable-room size places card n room h =
     let a = leb headerSize room in
     let b = leb n ((room - headerSize) / lineMost) in
     let c = leb n (length places / 2) in
-    let d = leb n (card / cardCount) in
+    let d = leb n (card / columnCount) in
     let h₁ = and-left (a && b && c && d) e h in
     let h₂ = and-left (a && b && c) d h₁ in
     let h₃ = and-left (a && b) c h₂ in
     let p = leb-true headerSize room (and-left a b h₃) in
     let q = leb-true n ((room - headerSize) / lineMost) (and-right a b h₃) in
     let r = leb-true n (length places / 2) (and-right (a && b) c h₂) in
-    let t = leb-true n (card / cardCount) (and-right (a && b && c) d h₁) in
+    let t = leb-true n (card / columnCount) (and-right (a && b && c) d h₁) in
     record {
       header = p;
       rows =
@@ -108,14 +109,14 @@ module _ (size : ℕ) (places : List ℕ) (card n room : ℕ) where
   no-names h k l = rw (le-leb headerSize room h, le-leb n ((room - headerSize) / lineMost) k, lt-leb n (length places / 2) l)
 
   pub no-numbers :
-      headerSize ≤ room → n ≤ (room - headerSize) / lineMost → n ≤ length places / 2 → card / cardCount < n → false ≡ printable size places card n room
+      headerSize ≤ room → n ≤ (room - headerSize) / lineMost → n ≤ length places / 2 → card / columnCount < n → false ≡ printable size places card n room
   unfolding printable
   no-numbers h k l m =
-      rw (le-leb headerSize room h, le-leb n ((room - headerSize) / lineMost) k, le-leb n (length places / 2) l, lt-leb n (card / cardCount) m)
+      rw (le-leb headerSize room h, le-leb n ((room - headerSize) / lineMost) k, le-leb n (length places / 2) l, lt-leb n (card / columnCount) m)
 
   pub places-decide :
-      headerSize ≤ room → n ≤ (room - headerSize) / lineMost → n ≤ length places / 2 → n ≤ card / cardCount →
+      headerSize ≤ room → n ≤ (room - headerSize) / lineMost → n ≤ length places / 2 → n ≤ card / columnCount →
       every n (placeRight size places) ≡ printable size places card n room
   unfolding printable
   places-decide h k l m =
-      rw (le-leb headerSize room h, le-leb n ((room - headerSize) / lineMost) k, le-leb n (length places / 2) l, le-leb n (card / cardCount) m)
+      rw (le-leb headerSize room h, le-leb n ((room - headerSize) / lineMost) k, le-leb n (length places / 2) l, le-leb n (card / columnCount) m)

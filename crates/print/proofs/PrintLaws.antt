@@ -9,12 +9,13 @@ use native.Mathlib.Omega.{arith}
 use lib.ListN.{length, drop, getD, length-append}
 use lib.Seq.{drop-drop, take-append-seam}
 use borrow.Author.Tests.{le-leb, lt-leb}
+use Rattle.layout.specs.Counts.{columnCount}
 use Rattle.fold.proofs.FoldLaws.{every-at}
 use Rattle.answers.specs.Answer.{numberCount}
 use Rattle.cursor.specs.Pieces.{nameMost}
 use Rattle.cursor.specs.Names.{nameAtPlace, namesAt}
 use Rattle.print.specs.Write.{numberText, written, Wrote}
-use Rattle.print.specs.Card.{cardCount, headerSize, lineMost, refusalMost, cardHeader, refusalHeader, lineEnd}
+use Rattle.print.specs.Card.{headerSize, lineMost, refusalMost, cardHeader, refusalHeader, lineEnd}
 use Rattle.print.specs.Card.{fieldsText, lineText, rowsText, cardText, refusalText}
 use Rattle.print.specs.Card.{placeRight, printable, Printed, cardPrinted, refusalPrinted}
 use Rattle.print.proofs.DigitLaws.{number-few}
@@ -91,9 +92,9 @@ rows-short s places card (suc n) i h =
     let e : (i + 0) * 2 + 1 ≡ i * 2 + 1 = omega arith in
     let k = line-short s places card i (rw e at (h 0 (omega arith))) in
     let a : i * 2 + 2 ≡ (i + 1) * 2 = omega arith in
-    let r = rows-short s places (drop cardCount card) n (i + 1) (λ j l. rw (add-assoc i 1 j, one-add j) (h (suc j) (omega arith))) in
+    let r = rows-short s places (drop columnCount card) n (i + 1) (λ j l. rw (add-assoc i 1 j, one-add j) (h (suc j) (omega arith))) in
     let line = lineText (nameAtPlace s (drop (i * 2) places)) card in
-    let rest = rowsText (namesAt s n (drop ((i + 1) * 2) places)) (drop cardCount card) in
+    let rest = rowsText (namesAt s n (drop ((i + 1) * 2) places)) (drop columnCount card) in
     rw (drop-drop 2 (i * 2) places, a) (omega (arith, k, r, length-append line rest))
 
 pub card-short :

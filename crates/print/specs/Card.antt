@@ -5,15 +5,12 @@ use mathlib.Core.List.{List, [], _∷_, _++_}
 use Prim.Native.Nat.{ℕ, zero, suc, _+_, _-_, _*_, _/_, _≤_}
 use lib.Dec.{leb}
 use lib.ListN.{length, getD, take, drop}
+use Rattle.layout.specs.Counts.{columnCount}
 use Rattle.answers.specs.Answer.{numberCount}
 use Rattle.fold.specs.Fold.{every}
 use Rattle.cursor.specs.Pieces.{nameMost}
 use Rattle.cursor.specs.Names.{namesAt}
 use Rattle.print.specs.Write.{digitsMost, numberText, written}
-
--- a card row has so many numbers
-abbrev pub cardCount : ℕ
-cardCount = 3
 
 -- name,pickup,delay,cutoff
 abbrev pub cardHeader : List ℕ
@@ -33,12 +30,12 @@ fieldsText (suc k) values = (44 ∷ numberText (getD values 0 0)) ++ fieldsText 
 
 -- the name and the numbers of one row
 unfoldable pub lineText : List ℕ → List ℕ → List ℕ
-lineText name card = name ++ fieldsText cardCount card ++ lineEnd
+lineText name card = name ++ fieldsText columnCount card ++ lineEnd
 
 -- a line for each name, with the next numbers of the card
 unfoldable pub rowsText : List (List ℕ) → List ℕ → List ℕ
 rowsText [] card = []
-rowsText (name ∷ names) card = lineText name card ++ rowsText names (drop cardCount card)
+rowsText (name ∷ names) card = lineText name card ++ rowsText names (drop columnCount card)
 
 unfoldable pub cardText : List (List ℕ) → List ℕ → List ℕ
 cardText names card = cardHeader ++ rowsText names card
@@ -55,7 +52,7 @@ abbrev pub fieldMost : ℕ
 fieldMost = digitsMost + 1
 
 abbrev pub fieldsMost : ℕ
-fieldsMost = cardCount * fieldMost
+fieldsMost = columnCount * fieldMost
 
 abbrev pub lineMost : ℕ
 lineMost = nameMost + fieldsMost + 2
@@ -73,20 +70,20 @@ placeRight size places i =
 pub record RowsFit (size : ℕ) (places : List ℕ) (card n at room : ℕ) : Type 0 where
   pub out-room : at + n * lineMost ≤ room
   pub names : n * 2 ≤ length places
-  pub numbers : n * cardCount ≤ card
+  pub numbers : n * columnCount ≤ card
   pub right : every n (placeRight size places) ≡ true
 
 -- what printing row i at `at` asks
 pub record RowFits (size : ℕ) (places : List ℕ) (card i at room : ℕ) : Type 0 where
   pub out-room : at + lineMost ≤ room
   pub names : i * 2 + 2 ≤ length places
-  pub numbers : i * cardCount + cardCount ≤ card
+  pub numbers : i * columnCount + columnCount ≤ card
   pub right : placeRight size places i ≡ true
 
 -- n rows can be printed: there is room for the longest lines, and names and card have n rows
 unfoldable pub printable : ℕ → List ℕ → ℕ → ℕ → ℕ → Bool
 printable size places card n room =
-    leb headerSize room && leb n ((room - headerSize) / lineMost) && leb n (length places / 2) && leb n (card / cardCount) &&
+    leb headerSize room && leb n ((room - headerSize) / lineMost) && leb n (length places / 2) && leb n (card / columnCount) &&
     every n (placeRight size places)
 
 -- what is printed: the card, or nothing where it cannot be

@@ -2,7 +2,7 @@
 mod write;
 
 use answers::NUMBERS;
-use write::CARD;
+use layout::COLUMNS;
 use write::put_block;
 use write::put_end;
 use write::put_fields;
@@ -11,10 +11,11 @@ use write::put_number;
 ghost use mathlib.Core.Path.{_≡_};
 ghost use Prim.Native.Nat.{_+_, _*_, _≤_};
 ghost use lib.ListN.{length, drop};
+ghost use Rattle.layout.specs.Counts.{columnCount};
 ghost use Rattle.fold.specs.Fold.{every};
 ghost use Rattle.cursor.specs.Names.{nameAtPlace, namesAt};
 ghost use Rattle.print.specs.Write.{Wrote};
-ghost use Rattle.print.specs.Card.{cardCount, lineText, rowsText, placeRight, printable, RowFits, RowsFit, Printed, cardPrinted, refusalPrinted};
+ghost use Rattle.print.specs.Card.{lineText, rowsText, placeRight, printable, RowFits, RowsFit, Printed, cardPrinted, refusalPrinted};
 
 // A name has at most so many bytes.
 const NAME_MOST: u64 = 24;
@@ -22,7 +23,7 @@ const NAME_MOST: u64 = 24;
 // The bytes of the card's header, of one line of the card and of a refusal, at most.
 pub const HEADER: usize = 26;
 
-pub const LINE_MOST: usize = 24 + CARD * 21 + 2;
+pub const LINE_MOST: usize = 24 + COLUMNS * 21 + 2;
 
 const REFUSAL_MOST: usize = 21 + 20 + (NUMBERS - 1) * 21 + 2;
 
@@ -70,7 +71,7 @@ fn can_print(size: usize, names: &[u64], card: usize, n: usize, room: usize) -> 
     if names.len() / 2 < n {
         return false;
     }
-    if card / CARD < n {
+    if card / COLUMNS < n {
         return false;
     }
     places_right(size, names, n)
@@ -79,12 +80,12 @@ fn can_print(size: usize, names: &[u64], card: usize, n: usize, room: usize) -> 
 // The line of row i.
 fn put_row(out: &mut [u8], at: usize, text: &[u8], names: &[u64], card: &[u64], i: usize) -> usize
     requires { ⌜ RowFits (length (now text)) (now names) (length (now card)) i at (length (now out)) ⌝ }
-    ensures { λ r. ⌜ Wrote (now (out .entry)) at (lineText (nameAtPlace (now (text .entry)) (drop (i * 2) (now (names .entry)))) (drop (i * cardCount) (now (card .entry)))) (now (out .exit)) r ⌝ }
+    ensures { λ r. ⌜ Wrote (now (out .entry)) at (lineText (nameAtPlace (now (text .entry)) (drop (i * 2) (now (names .entry)))) (drop (i * columnCount) (now (card .entry)))) (now (out .exit)) r ⌝ }
 {
     let place = i * 2;
     let start = names[place] as usize;
     let end = start + names[place + 1] as usize;
-    put_line(out, at, &text[start..end], card, i * CARD)
+    put_line(out, at, &text[start..end], card, i * COLUMNS)
 }
 
 // The lines of n rows.

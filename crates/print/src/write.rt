@@ -1,14 +1,13 @@
 // Writing bytes, numbers and lines into a buffer, each from a place on; the answer is the place behind.
 use blocks::put_bytes;
+use layout::COLUMNS;
 ghost use mathlib.Core.Path.{_≡_};
 ghost use mathlib.Core.List.{[], _∷_};
 ghost use Prim.Native.Nat.{_+_, _*_, _≤_};
 ghost use lib.ListN.{length, drop};
+ghost use Rattle.layout.specs.Counts.{columnCount};
 ghost use Rattle.print.specs.Write.{Wrote, digitsMost, numberText};
-ghost use Rattle.print.specs.Card.{cardCount, fieldMost, fieldsMost, fieldsText, lineText, lineEnd};
-
-// A card row has so many numbers.
-pub(crate) const CARD: usize = 3;
+ghost use Rattle.print.specs.Card.{fieldMost, fieldsMost, fieldsText, lineText, lineEnd};
 
 pub(crate) fn put_block(out: &mut [u8], at: usize, block: &[u8]) -> usize
     requires { ⌜ at + length (now block) ≤ length (now out) ⌝ }
@@ -73,10 +72,10 @@ pub(crate) fn put_fields(
 
 // One line of the card.
 pub(crate) fn put_line(out: &mut [u8], at: usize, name: &[u8], card: &[u64], from: usize) -> usize
-    requires { ⌜ (at + length (now name) + fieldsMost + 2 ≤ length (now out)) × (from + cardCount ≤ length (now card)) ⌝ }
+    requires { ⌜ (at + length (now name) + fieldsMost + 2 ≤ length (now out)) × (from + columnCount ≤ length (now card)) ⌝ }
     ensures { λ r. ⌜ Wrote (now (out .entry)) at (lineText (now (name .entry)) (drop from (now (card .entry)))) (now (out .exit)) r ⌝ }
 {
     let named = put_block(out, at, name);
-    let numbered = put_fields(out, named, card, from, CARD);
+    let numbered = put_fields(out, named, card, from, COLUMNS);
     put_end(out, numbered)
 }

@@ -8,6 +8,7 @@ use native.Mathlib.Omega.{arith}
 use lib.ListN.{length, getD, take, drop, List·getD-append}
 use lib.Seq.{paste, take-all, take-at, drop-append-le, length-take-le}
 use borrow.Author.Tests.{le-leb, lt-leb, eq-eqb, ne-eqb}
+use Rattle.layout.specs.Counts.{cardMost, rowsMost}
 use Rattle.fold.proofs.BoolLaws.{and-both}
 use Rattle.fold.proofs.FoldLaws.{every-of}
 use Rattle.answers.specs.declared.Answer.the-variants as answer
@@ -29,7 +30,7 @@ use Rattle.sheet.specs.Sheet.{namesOf, blankCard, Sheet, refusedWith, sh
 use Rattle.sheet.proofs.PlaceLaws.{PlaceInside, RowsStand, rows-stand}
 
 -- a buffer over whose start n blocks of w numbers were written
-blocks-front : (w n : ℕ) (xs l : List ℕ) → n ≤ 256 → length xs ≡ n * w → blocksOver 256 w n xs l ≡ xs ++ drop (length xs) l
+blocks-front : (w n : ℕ) (xs l : List ℕ) → n ≤ 256 → length xs ≡ n * w → blocksOver rowsMost w n xs l ≡ xs ++ drop (length xs) l
 unfolding blocksOver over
 blocks-front w n xs l h e =
     let m : min n 256 ≡ n = min-eq-left h in
@@ -71,17 +72,17 @@ module _ (s list names : List ℕ) (n room : ℕ) (r : RowsReady s list names n 
     names-is : names ≡ rowPlaces s ++ drop (length (rowPlaces s)) (r .before-names)
     names-is = r .places ∙ rw (stand .read) (blocks-front 2 n (rowPlaces s) (r .before-names) few (stand .places-long))
 
-    pub numbers-front : take (n * 18) list ≡ rowNumbers s
-    numbers-front = ap (take (n * 18)) list-is ∙ take-at (rowNumbers s) _ (n * 18) (stand .numbers-long)
+    pub numbers-front : take (n * fieldCount) list ≡ rowNumbers s
+    numbers-front = ap (take (n * fieldCount)) list-is ∙ take-at (rowNumbers s) _ (n * fieldCount) (stand .numbers-long)
 
-    pub part-long : n * 18 ≡ length (take (n * 18) list)
-    part-long = sym (length-take-le (n * 18) list (omega (arith, r .list-room)))
+    pub part-long : n * fieldCount ≡ length (take (n * fieldCount) list)
+    part-long = sym (length-take-le (n * fieldCount) list (omega (arith, r .list-room)))
 
     all-names : namesAt s n names ≡ namesOf s
     unfolding namesOf
     all-names = ap (namesAt s n) names-is ∙ names-front s n (rowPlaces s) _ (omega (arith, stand .places-long)) ∙ stand .names
 
-    can-print : (card : List ℕ) → length card ≡ 768 → printable (length s) names (length card) n room ≡ true
+    can-print : (card : List ℕ) → length card ≡ cardMost → printable (length s) names (length card) n room ≡ true
     unfolding printable
     can-print card e =
         let o = r .out-room in
@@ -95,7 +96,7 @@ module _ (s list names : List ℕ) (n room : ℕ) (r : RowsReady s list names n 
         (λ k h. rw names-is (right-front (length s) (rowPlaces s) _ k (omega (arith, stand .places-long)) (stand .inside k h))))
 
     -- the whole calculation of the numbers read
-    module _ (g card : List ℕ) (z : Gave (whole (take (n * 18) list) blankCard) g card) where
+    module _ (g card : List ℕ) (z : Gave (whole (take (n * fieldCount) list) blankCard) g card) where
       given-is : g ≡ givenBy (whole (rowNumbers s) blankCard .answer)
       given-is = z .numbers ∙ ap (λ (l : List ℕ). givenBy (whole l blankCard .answer)) numbers-front
 
@@ -107,7 +108,7 @@ module _ (s list names : List ℕ) (n room : ℕ) (r : RowsReady s list names n 
       sheet-is = rw (r .read) (sym (ap₂ (sheetWith (namesOf s)) card-is given-is))
 
       pub card-filled :
-          (out out′ : List ℕ) (bytes : ℕ) → room ≡ length out → length card ≡ 768 → getD g 0 0 ≡ 0 → Printed out (cardPrinted s names card n room) out′ bytes →
+          (out out′ : List ℕ) (bytes : ℕ) → room ≡ length out → length card ≡ cardMost → getD g 0 0 ≡ 0 → Printed out (cardPrinted s names card n room) out′ bytes →
           Filled (sheetOf s) out g bytes out′
       unfolding cardPrinted sheetWith
       card-filled out out′ bytes same long e p =

@@ -1,8 +1,9 @@
 -- What printing the rows of a text asks of its callers. Definitions only.
 use mathlib.Core.Path.{_≡_}
 use mathlib.Core.List.{List}
-use Prim.Native.Nat.{ℕ, _≤_}
+use Prim.Native.Nat.{ℕ, _*_, _≤_}
 use lib.ListN.{length}
+use Rattle.layout.specs.Counts.{listMost, rowsMost}
 use Rattle.line.specs.Line.{fieldCount}
 use Rattle.text.specs.declared.Reading.the-variants.{Rows}
 use Rattle.text.specs.Text.{reading, rowNumbers, rowPlaces, rowsRead, blocksOver}
@@ -11,10 +12,10 @@ use Rattle.sheet.specs.Sheet.{sheetMost}
 -- the text was read whole, n rows, into buffers with room for 256, and there is room to print
 pub record RowsReady (s list names : List ℕ) (n room : ℕ) : Type 0 where
   pub read : reading s ≡ Rows n
-  pub list-room : length list ≡ 4608
-  pub names-room : length names ≡ 512
+  pub list-room : length list ≡ listMost
+  pub names-room : length names ≡ rowsMost * 2
   pub before-list : List ℕ
   pub before-names : List ℕ
-  pub numbers : list ≡ blocksOver 256 fieldCount (rowsRead s) (rowNumbers s) before-list
-  pub places : names ≡ blocksOver 256 2 (rowsRead s) (rowPlaces s) before-names
+  pub numbers : list ≡ blocksOver rowsMost fieldCount (rowsRead s) (rowNumbers s) before-list
+  pub places : names ≡ blocksOver rowsMost 2 (rowsRead s) (rowPlaces s) before-names
   pub out-room : sheetMost ≤ room

@@ -6,6 +6,7 @@ use mathlib.Core.List.{List, [], map}
 use Prim.Native.Nat.{ℕ, _+_, _*_}
 use lib.Dec.{leb, eqb}
 use lib.ListN.{length, getD, replicate}
+use Rattle.layout.specs.Counts.{cardMost}
 use Rattle.answers.specs.declared.Answer.{Answer}
 use Rattle.answers.specs.declared.Answer.the-variants as answer
 use Rattle.answers.specs.Answer.{givenBy}
@@ -22,7 +23,7 @@ namesOf s = map (λ (r : Row). r .name) (rowsOf s)
 
 -- room for the card of 256 rows
 unfoldable pub blankCard : List ℕ
-blankCard = replicate 768 0
+blankCard = replicate cardMost 0
 
 -- what is given for a text: the answer's numbers, and the bytes printed with them
 pub record Sheet : Type 0 where

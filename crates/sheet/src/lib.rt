@@ -4,6 +4,10 @@ use answers::NUMBERS;
 use answers::numbers;
 use blocks::put_bytes;
 use calculate::whole_calculation;
+use layout::CARD;
+use layout::FIELDS;
+use layout::LIST;
+use layout::ROWS;
 use print::HEADER;
 use print::LINE_MOST;
 use print::print_card;
@@ -15,14 +19,8 @@ ghost use lib.ListN.{length};
 ghost use Rattle.sheet.specs.Sheet.{sheetMost, refusedWith, sheetOf, fitted, Filled};
 ghost use Rattle.sheet.specs.Ready.{RowsReady};
 
-// Room for 256 rows: their numbers, their names' places, their card, and what is printed of it.
-const ROWS: usize = 256;
-
-const LIST: usize = ROWS * 18;
-
+// Room for the names' places of the longest list, and for what is printed of its card.
 const NAMES: usize = ROWS * 2;
-
-const CARD: usize = ROWS * 3;
 
 pub const SHEET_MOST: usize = HEADER + ROWS * LINE_MOST;
 
@@ -52,7 +50,7 @@ fn print_rows(text: &[u8], list: &[u64], names: &[u64], n: usize, out: &mut [u8]
         return refuse(numbers(Answer::Count), out);
     }
     let mut card = [0u64; CARD];
-    let end = n * 18;
+    let end = n * FIELDS;
     let given = whole_calculation(&list[..end], &mut card);
     if given[0] == 0 {
         let bytes = print_card(text, names, &card, n, out);

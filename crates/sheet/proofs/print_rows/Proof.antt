@@ -27,13 +27,13 @@ returns c =
 mul-end : tie.Need-mul-end
 mul-end c = search needs
 
-slice-aggregate-whole : tie.Need-slice-aggregate-whole
-slice-aggregate-whole c =
+slice-aggregate-whole-calculation : tie.Need-slice-aggregate-whole-calculation
+slice-aggregate-whole-calculation c =
     let few = c .before in
     part-long _ _ _ _ _ (few .before .before .before .before .before .pre) (few .if1 .left)
 
-slice-aggregate-whole-2 : tie.Need-slice-aggregate-whole-2
-slice-aggregate-whole-2 c = search needs
+slice-aggregate-whole-calculation-2 : tie.Need-slice-aggregate-whole-calculation-2
+slice-aggregate-whole-calculation-2 c = search needs
 
 whole-calculation-requires : tie.Need-whole-calculation-requires
 whole-calculation-requires c κs = search needs
@@ -57,7 +57,8 @@ returns-2 c =
     let worked = done .before .before in
     let few = worked .before .before .before in
     let start = few .before .before .before .before .before in
-    card-filled _ _ _ _ _ (start .pre) (few .if1 .left) _ _ (worked .whole-calculation .ensures) _ _ _ refl (worked .whole .kept .1 .0) (done .if2 .taken)
+    card-filled _ _ _ _ _ (start .pre) (few .if1 .left) _ _ (worked .whole-calculation .ensures) _ _ _ refl (worked .whole-calculation .kept .1 .0)
+    (done .if2 .taken)
     (c .before .before .print-card .ensures)
 
 refuse-requires-2 : tie.Need-refuse-requires-2
@@ -73,7 +74,8 @@ returns-3 c =
     let worked = refused .before .before in
     let few = worked .before .before .before in
     let start = few .before .before .before .before .before in
-    refusal-filled _ _ _ _ _ (start .pre) (few .if1 .left) _ _ (worked .whole-calculation .ensures) _ _ _ _ (refused .if2 .left) (c .before .before .refuse2 .ensures)
+    refusal-filled _ _ _ _ _ (start .pre) (few .if1 .left) _ _ (worked .whole-calculation .ensures) _ _ _ _ (refused .if2 .left)
+    (c .before .before .refuse2 .ensures)
 
 pub print-rows-spec : {M : Type 1} → statement M
 print-rows-spec =
@@ -84,8 +86,8 @@ print-rows-spec =
     same-length
     returns
     mul-end
-    slice-aggregate-whole
-    slice-aggregate-whole-2
+    slice-aggregate-whole-calculation
+    slice-aggregate-whole-calculation-2
     whole-calculation-requires
     array-read-if2
     slice-aggregate-print-card
