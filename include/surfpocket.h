@@ -18,8 +18,11 @@ extern "C" {
 #define SURFPOCKET_CARD_NUMBERS 3
 #define SURFPOCKET_MOST_ROWS 256
 
-/* The room, in bytes, that a printed card or refusal asks for. */
+/* Room, in bytes, for any printed card or refusal. */
 #define SURFPOCKET_CARD_ROOM 22810
+
+/* What this header declares; surfpocket_version() gives the library's. It grows with every change of what is lent or given. */
+#define SURFPOCKET_VERSION 1
 
 /* The numbers given back. */
 #define SURFPOCKET_DONE 0
@@ -54,6 +57,16 @@ typedef struct {
     uint64_t least;
 } SurfpocketStudy;
 
+/* Number, place (a line or a row from 1, or 0), for FIELD the field from 1, and how many bytes were written. */
+typedef struct {
+    uint64_t number;
+    uint64_t place;
+    uint64_t field;
+    size_t bytes;
+} SurfpocketPrinted;
+
+uint64_t surfpocket_version(void);
+
 /* The whole calculation: gives DONE and writes the settings of each row to the front of the card, or gives the first refusal in the
    order of the rules and leaves the card as it was. The list, and a card's numbers past its rows, are never changed. */
 SurfpocketAnswer surfpocket_whole(const uint64_t *list, size_t list_length, uint64_t *card, size_t card_length);
@@ -69,10 +82,11 @@ SurfpocketAnswer surfpocket_replace(uint64_t *list, size_t list_length, uint64_t
 SurfpocketStudy surfpocket_study(uint64_t greatest_unit, float greatest, uint64_t greatest_rated,
                                  uint64_t least_unit, float least, uint64_t least_rated);
 
-/* From the text of a list to its printed card or refusal: writes it to the front of out and gives how many bytes it has. Where out
-   has fewer than SURFPOCKET_CARD_ROOM bytes it writes nothing and gives 0. The text, and bytes past what is written, are never
-   changed. */
-size_t surfpocket_card(const uint8_t *text, size_t text_length, uint8_t *out, size_t out_length);
+/* From the text of a list to its printed card or refusal, written to the front of out: gives DONE and the card's bytes, or the first
+   refusal in the order of the rules and the bytes of its printed lines. What does not fit into out is not written, and bytes is 0: a
+   card is then ROOM, and a refusal is given as it is. SURFPOCKET_CARD_ROOM bytes are always enough. The text, and bytes past what is
+   written, are never changed. */
+SurfpocketPrinted surfpocket_card(const uint8_t *text, size_t text_length, uint8_t *out, size_t out_length);
 
 #ifdef __cplusplus
 }

@@ -1,20 +1,38 @@
--- [01 §4] The number, the place and, for FIELD, the field of each answer. Definitions only.
+-- [01 §4] The numbers given back. Definitions only.
+use mathlib.Core.List.{List, [], _∷_}
 use Prim.Native.Nat.{ℕ}
+use lib.ListN.{getD}
 use Rattle.answers.specs.declared.Answer.{Answer}
-use Rattle.answers.specs.declared.Answer.the-variants.{Done, Count, Room, Field, Tree, Pickup, Delay, Card, Edit}
-use Rattle.answers.specs.declared.Given.{Given}
+use Rattle.answers.specs.declared.Answer.the-variants.{Done, Text, Count, Room, Field, Tree, Unsettled, Study, Card, Edit}
+use Rattle.answers.specs.declared.Reason.{Reason}
+use Rattle.answers.specs.declared.Reason.the-variants.{Pickup, Delay}
 
--- number, place, field
-abbrev pub numbered : ℕ → ℕ → ℕ → Given
-numbered n p f = record { number = n; place = p; field = f }
+-- an answer is given in so many numbers
+abbrev pub numberCount : ℕ
+numberCount = 3
 
-abbrev pub givenBy : Answer → Given
+-- the number, the place, and what names the place more closely
+abbrev numbered : ℕ → ℕ → ℕ → List ℕ
+numbered n p x = n ∷ p ∷ x ∷ []
+
+abbrev pub reasonNumber : Reason → ℕ
+reasonNumber Pickup = 6
+reasonNumber Delay = 7
+
+abbrev pub givenBy : Answer → List ℕ
 givenBy Done = numbered 0 0 0
+givenBy (Text line) = numbered 1 line 0
 givenBy Count = numbered 2 0 0
 givenBy Room = numbered 3 0 0
 givenBy (Field row field) = numbered 4 row field
 givenBy (Tree row) = numbered 5 row 0
-givenBy (Pickup row) = numbered 6 row 0
-givenBy (Delay row) = numbered 7 row 0
+givenBy (Unsettled row why) = numbered (reasonNumber why) row 0
+givenBy (Study place) = numbered 8 place 0
 givenBy (Card row) = numbered 9 row 0
 givenBy Edit = numbered 10 0 0
+
+abbrev pub numberOf : Answer → ℕ
+numberOf a = getD (givenBy a) 0 0
+
+abbrev pub placeOf : Answer → ℕ
+placeOf a = getD (givenBy a) 1 0

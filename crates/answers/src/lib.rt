@@ -1,16 +1,23 @@
 // The answers of section 4, and their numbers.
 ghost use mathlib.Core.Path.{_≡_};
-ghost use Rattle.answers.specs.Answer.{givenBy};
+ghost use Rattle.answers.specs.Answer.{reasonNumber, givenBy};
 
-// The answers of section 4, each with its place: row and field numbers from 1.
+// Why a row can't be settled.
+pub enum Reason {
+    Pickup,
+    Delay,
+}
+
+// The answers of section 4, each with its place: lines, rows and fields from 1.
 pub enum Answer {
     Done,
+    Text(u64),
     Count,
     Room,
     Field(u64, u64),
     Tree(u64),
-    Pickup(u64),
-    Delay(u64),
+    Unsettled(u64, Reason),
+    Study(u64),
     Card(u64),
     Edit,
 }
@@ -21,61 +28,31 @@ pub enum Tested {
     Refused(Answer),
 }
 
-// An answer in section 4's numbers.
-pub struct Given {
-    pub number: u64,
-    pub place: u64,
-    pub field: u64,
+// An answer is given in so many numbers: number, place, and what names the place more closely.
+pub const NUMBERS: usize = 3;
+
+fn reason_number(why: Reason) -> u64
+    ensures { λ r. ⌜ r ≡ reasonNumber why ⌝ }
+{
+    match why {
+        Reason::Pickup => 6,
+        Reason::Delay => 7,
+    }
 }
 
-pub fn numbers(a: Answer) -> Given
+pub fn numbers(a: Answer) -> [u64; NUMBERS]
     ensures { λ r. ⌜ r ≡ givenBy a ⌝ }
 {
     match a {
-        Answer::Done => Given {
-            number: 0,
-            place: 0,
-            field: 0,
-        },
-        Answer::Count => Given {
-            number: 2,
-            place: 0,
-            field: 0,
-        },
-        Answer::Room => Given {
-            number: 3,
-            place: 0,
-            field: 0,
-        },
-        Answer::Field(row, field) => Given {
-            number: 4,
-            place: row,
-            field,
-        },
-        Answer::Tree(row) => Given {
-            number: 5,
-            place: row,
-            field: 0,
-        },
-        Answer::Pickup(row) => Given {
-            number: 6,
-            place: row,
-            field: 0,
-        },
-        Answer::Delay(row) => Given {
-            number: 7,
-            place: row,
-            field: 0,
-        },
-        Answer::Card(row) => Given {
-            number: 9,
-            place: row,
-            field: 0,
-        },
-        Answer::Edit => Given {
-            number: 10,
-            place: 0,
-            field: 0,
-        },
+        Answer::Done => [0, 0, 0],
+        Answer::Text(line) => [1, line, 0],
+        Answer::Count => [2, 0, 0],
+        Answer::Room => [3, 0, 0],
+        Answer::Field(row, field) => [4, row, field],
+        Answer::Tree(row) => [5, row, 0],
+        Answer::Unsettled(row, why) => [reason_number(why), row, 0],
+        Answer::Study(place) => [8, place, 0],
+        Answer::Card(row) => [9, row, 0],
+        Answer::Edit => [10, 0, 0],
     }
 }

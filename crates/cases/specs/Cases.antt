@@ -4,7 +4,8 @@ use mathlib.Core.List.{List, [], _∷_}
 use Prim.Native.Nat.{ℕ, zero, suc}
 use lib.ListN.{set}
 use Rattle.answers.specs.declared.Answer.{Answer}
-use Rattle.answers.specs.declared.Answer.the-variants.{Done, Pickup, Delay}
+use Rattle.answers.specs.declared.Answer.the-variants.{Done, Unsettled}
+use Rattle.answers.specs.declared.Reason.the-variants.{Pickup, Delay}
 use Rattle.settle.specs.Conditions.{eachFed, clearOf}
 use Rattle.whole.specs.Whole.{whole}
 use Rattle.change.specs.Replace.{replaced}
@@ -76,13 +77,13 @@ unfoldable pub table : List Starred
 table =
     starred (calculates twoRows) (answers Done twoCard) ∷
     starred (calculates (set twoRows far2 540000)) (answers Done twoCard) ∷
-    starred (calculates (set twoRows far2 539999)) (answers (Pickup 2) blank) ∷
+    starred (calculates (set twoRows far2 539999)) (answers (Unsettled 2 Pickup) blank) ∷
     starred (calculates (set twoRows ceiling2 2200)) (answers Done twoCard) ∷
-    starred (calculates (set twoRows ceiling2 2199)) (answers (Delay 2) blank) ∷
+    starred (calculates (set twoRows ceiling2 2199)) (answers (Unsettled 2 Delay) blank) ∷
     starred (calculates (set twoRows near2 5148000)) (answers Done twoCard) ∷
     starred (calculates (set twoRows near2 5147999)) (answers Done (318000 ∷ 1900 ∷ 1300000 ∷ 360000 ∷ 2200 ∷ 0 ∷ [])) ∷
     starred (replaces twoRows twoCard 1 (firstRow 190000 900000)) (answers Done (336000 ∷ 1900 ∷ 1300000 ∷ 370000 ∷ 2200 ∷ 4290000 ∷ [])) ∷
-    starred (replaces twoRows twoCard 1 (firstRow 180000 431000)) (answers (Pickup 1) twoCard) ∷
+    starred (replaces twoRows twoCard 1 (firstRow 180000 431000)) (answers (Unsettled 1 Pickup) twoCard) ∷
     starred (clears 100000 99000 209000) (clear true) ∷
     starred (clears 100000 99000 208999) (clear false) ∷
     starred (clears 100000 101000 209000) (clear true) ∷

@@ -6,7 +6,6 @@ use native.Mathlib.Omega.{arith}
 use lib.ListN.{length, take, drop, drop-of-length-le}
 use Rattle.answers.specs.declared.Answer.{Answer}
 use Rattle.answers.specs.declared.Answer.the-variants.{Done}
-use Rattle.answers.specs.declared.Given.{Given}
 use Rattle.answers.specs.declared.Tested.{Tested}
 use Rattle.answers.specs.declared.Tested.the-variants.{Passed, Refused}
 use Rattle.answers.specs.Answer.{givenBy}
@@ -112,5 +111,5 @@ module _ (l c : List ℕ) (place : ℕ) (row : List ℕ) where
       answer-exchanged a l′ c′ z = rw (sym e ∙ f, sym e′ ∙ f′) z
 
 -- the answer in section 4's numbers
-pub gave : {z : Replaced} {a : Answer} {g : Given} {l c : List ℕ} → g ≡ givenBy a → Exchanged z a l c → Gave z g l c
+pub gave : {z : Replaced} {a : Answer} {g l c : List ℕ} → g ≡ givenBy a → Exchanged z a l c → Gave z g l c
 gave e x = record { numbers = e ∙ ap givenBy (x .answer); list = x .list; card = x .card }

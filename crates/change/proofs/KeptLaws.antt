@@ -11,13 +11,13 @@ use Rattle.grid.proofs.BoolLaws.{not-both}
 use Rattle.answers.specs.declared.Answer.{Answer}
 use Rattle.answers.specs.declared.Answer.the-variants.{Done}
 use Rattle.answers.specs.declared.Tested.the-variants.{Passed}
-use Rattle.answers.specs.Answer.{givenBy}
+use Rattle.answers.specs.Answer.{numberOf}
 use Rattle.row.specs.Row.{rows}
 use Rattle.rows.specs.Tests.{sizeTest, rowsTest}
 use Rattle.rows.proofs.InRangeLaws.{passed-feeds}
 use Rattle.settle.specs.declared.Outcome.{Outcome}
 use Rattle.settle.specs.declared.Settled.{Settled}
-use Rattle.settle.specs.declared.Settled.the-variants.{Set, NoPickup, NoDelay}
+use Rattle.settle.specs.declared.Settled.the-variants.{Set, Unset}
 use Rattle.settle.specs.Settle.{settled}
 use Rattle.work.specs.Card.{pickupIn, delayIn, putRow}
 use Rattle.work.specs.WorkOut.{Worked, finished, refused, onSettled, workOut}
@@ -59,8 +59,7 @@ module _ (l : List ℕ) where
                 k .same x (λ j on. out j (rw on (or-true (eqb j i)))) ∙
                 putRow-other c i o x (λ q. own (omega arith) (omega arith)) (λ q. own (omega arith) (omega arith)) (λ q. own (omega arith) (omega arith));
           }
-      by-cases NoPickup e ih = absurd (let z : _≡_ {A = ℕ} 0 1 = cc in omega arith)
-      by-cases NoDelay e ih = absurd (let z : _≡_ {A = ℕ} 0 1 = cc in omega arith)
+      by-cases (Unset why) e ih = absurd (let z : _≡_ {A = ℕ} 0 1 = cc in omega arith)
 
 module _ (l c : List ℕ) (place : ℕ) (row : List ℕ) where
   abbrev tried : Worked
@@ -100,13 +99,13 @@ module _ (l c : List ℕ) (place : ℕ) (row : List ℕ) where
       by-cases (refused a) q g = absurd (refuses-done (tried-refuses a q) g)
 
   -- the list after a replacement, by its answer
-  pub replaced-list : replaced l c place row .list ≡ cond (eqb (givenBy (replaced l c place row .answer) .number) 0) (putList l (place - 1) row) l
+  pub replaced-list : replaced l c place row .list ≡ cond (eqb (numberOf (replaced l c place row .answer)) 0) (putList l (place - 1) row) l
   unfolding replaced outcome
   replaced-list = by-cases tried refl
     where
       by-cases :
           (w : Worked) → tried ≡ w →
-          outcome l c (putList l (place - 1) row) w .list ≡ cond (eqb (givenBy (outcome l c (putList l (place - 1) row) w .answer) .number) 0) (putList l (place - 1) row) l
+          outcome l c (putList l (place - 1) row) w .list ≡ cond (eqb (numberOf (outcome l c (putList l (place - 1) row) w .answer)) 0) (putList l (place - 1) row) l
       by-cases (finished d) q = refl
       by-cases (refused a) q = rw (tried-refuses a q .not-done)
 

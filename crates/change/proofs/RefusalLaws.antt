@@ -12,11 +12,12 @@ use Rattle.answers.specs.declared.Answer.{Answer}
 use Rattle.answers.specs.declared.Answer.the-variants.{Done, Count, Room, Edit}
 use Rattle.answers.specs.declared.Tested.{Tested}
 use Rattle.answers.specs.declared.Tested.the-variants.{Passed, Refused}
-use Rattle.answers.specs.Answer.{givenBy}
+use Rattle.answers.specs.Answer.{numberOf}
+use Rattle.answers.proofs.AnswerLaws.{reason-not-done, reason-not-edit}
 use Rattle.rows.specs.Tests.{sizeTest, rowsTest, fieldAnswer, treeTest, treeAnswer}
 use Rattle.settle.specs.declared.Outcome.{Outcome}
 use Rattle.settle.specs.declared.Settled.{Settled}
-use Rattle.settle.specs.declared.Settled.the-variants.{Set, NoPickup, NoDelay}
+use Rattle.settle.specs.declared.Settled.the-variants.{Set, Unset}
 use Rattle.settle.specs.Settle.{settled}
 use Rattle.work.specs.Card.{pickupIn, delayIn, putRow}
 use Rattle.work.specs.WorkOut.{Worked, finished, refused, onSettled, workOut}
@@ -26,21 +27,21 @@ use Rattle.path.specs.CardTest.{cardTest, cardAnswer}
 
 -- a refusal: its number is not 0
 pub record Refuses (a : Answer) : Type 0 where
-  pub not-done : eqb (givenBy a .number) 0 ≡ false
+  pub not-done : eqb (numberOf a) 0 ≡ false
 
 -- a refusal other than EDIT
 pub record Later (a : Answer) : Type 0 where
   pub refuses : Refuses a
-  pub not-edit : eqb (givenBy a .number) 10 ≡ false
+  pub not-edit : eqb (numberOf a) 10 ≡ false
 
 pub refuses-done : {a : Answer} → Refuses a → a ≡ Done → ⊥
 refuses-done r e =
-    let z : true ≡ false = sym (ap (λ (a : Answer). eqb (givenBy a .number) 0) e) ∙ r .not-done in
+    let z : true ≡ false = sym (ap (λ (a : Answer). eqb (numberOf a) 0) e) ∙ r .not-done in
     mathlib.Core.Bool.true≢false z
 
 pub later-edit : {a : Answer} → Later a → a ≡ Edit → ⊥
 later-edit r e =
-    let z : true ≡ false = sym (ap (λ (a : Answer). eqb (givenBy a .number) 10) e) ∙ r .not-edit in
+    let z : true ≡ false = sym (ap (λ (a : Answer). eqb (numberOf a) 10) e) ∙ r .not-edit in
     mathlib.Core.Bool.true≢false z
 
 the-answer : {a b : Answer} → Refused a ≡ Refused b → a ≡ b
@@ -93,8 +94,8 @@ work-later l (i ∷ is) c a e = by-cases (settled l (pickupIn c) (delayIn c) i) 
   where
     by-cases : (s : Settled) → onSettled i s (λ o. workOut l is (putRow c i o)) ≡ refused a → ((o : Outcome) → workOut l is (putRow c i o) ≡ refused a → Later a) → Later a
     by-cases (Set o) e ih = ih o e
-    by-cases NoPickup e ih = subst Later (the-refusal e) (record { refuses = record { not-done = refl }; not-edit = refl })
-    by-cases NoDelay e ih = subst Later (the-refusal e) (record { refuses = record { not-done = refl }; not-edit = refl })
+    by-cases (Unset why) e ih =
+        subst Later (the-refusal e) (record { refuses = record { not-done = reason-not-done why }; not-edit = reason-not-edit why })
 
 -- a refusal after a test is the test's or what comes next's
 module _ (t : Tested) (w : Worked) where

@@ -15,7 +15,7 @@ use Rattle.row.specs.Row.{rows, field}
 use Rattle.rows.specs.InRange.{InRange, Feeds}
 use Rattle.settle.specs.declared.Outcome.{Outcome}
 use Rattle.settle.specs.declared.Settled.{Settled}
-use Rattle.settle.specs.declared.Settled.the-variants.{Set, NoPickup, NoDelay}
+use Rattle.settle.specs.declared.Settled.the-variants.{Set, Unset}
 use Rattle.settle.specs.Conditions.{fed}
 use Rattle.settle.specs.Settle.{settled}
 use Rattle.work.specs.Card.{pickupIn, delayIn, putRow}
@@ -36,8 +36,7 @@ workOut-skip l j is c r = rw (r .settles) (ap (workOut l is) (row-stands c j (r 
 settled-then : (i : ℕ) (s : Settled) (f g : Outcome → Worked) → ((o : Outcome) → f o ≡ g o) → onSettled i s f ≡ onSettled i s g
 unfolding onSettled
 settled-then i (Set o) f g e = e o
-settled-then i NoPickup f g e = refl
-settled-then i NoDelay f g e = refl
+settled-then i (Unset why) f g e = refl
 
 module _ (l : List ℕ) (a : InRange l) (b : Feeds l) (i : ℕ) (h : i < rows l) where
   -- every row off the path of row i stands at its own least settings

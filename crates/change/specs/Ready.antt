@@ -4,7 +4,6 @@ use mathlib.Core.List.{List}
 use Prim.Native.Nat.{ℕ}
 use lib.ListN.{length}
 use Rattle.answers.specs.declared.Answer.{Answer}
-use Rattle.answers.specs.declared.Given.{Given}
 use Rattle.answers.specs.Answer.{givenBy}
 use Rattle.path.specs.Ready.{ReworkReady}
 use Rattle.edit.specs.Edit.{putList}
@@ -25,7 +24,7 @@ pub record Exchanged (z : Replaced) (a : Answer) (l c : List ℕ) : Type 0 where
   pub card : c ≡ z .card
 
 -- the same, the answer in section 4's numbers
-pub record Gave (z : Replaced) (g : Given) (l c : List ℕ) : Type 0 where
+pub record Gave (z : Replaced) (g l c : List ℕ) : Type 0 where
   pub numbers : g ≡ givenBy (z .answer)
   pub list : l ≡ z .list
   pub card : c ≡ z .card

@@ -6,7 +6,7 @@ use lib.Dec.{eqb}
 use lib.ListN.{replicate}
 use Rattle.answers.specs.declared.Answer.{Answer}
 use Rattle.answers.specs.declared.Answer.the-variants.{Edit}
-use Rattle.answers.specs.Answer.{givenBy}
+use Rattle.answers.specs.Answer.{numberOf}
 use Rattle.row.specs.Row.{rows}
 use Rattle.whole.specs.Whole.{whole}
 use Rattle.edit.specs.Edit.{putList, editRight}
@@ -46,7 +46,7 @@ calculated l = whole l (replicate (rows l * 3) 0) .answer
 
 -- number 0: the ledger holds the list made; any other: it keeps its own
 unfoldable pub kept : List ℕ → List ℕ → Answer → Entry
-kept l l′ a = record { answer = a; list = cond (eqb (givenBy a .number) 0) l′ l }
+kept l l′ a = record { answer = a; list = cond (eqb (numberOf a) 0) l′ l }
 
 -- where EDIT applies, Edit; otherwise the whole calculation of the list with the new row in
 unfoldable pub entered : List ℕ → ℕ → List ℕ → Entry
@@ -65,4 +65,4 @@ ledger l (q ∷ qs) =
 unfoldable pub putDone : List ℕ → List Answer → List Request → List ℕ
 putDone l [] qs = l
 putDone l (a ∷ answers) [] = l
-putDone l (a ∷ answers) (q ∷ qs) = putDone (cond (eqb (givenBy a .number) 0) (putList l (q .place - 1) (q .row)) l) answers qs
+putDone l (a ∷ answers) (q ∷ qs) = putDone (cond (eqb (numberOf a) 0) (putList l (q .place - 1) (q .row)) l) answers qs

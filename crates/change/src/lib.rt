@@ -1,6 +1,6 @@
 // The replacement of one row of a lent list, on a lent card [01 §4].
 use answers::Answer;
-use answers::Given;
+use answers::NUMBERS;
 use answers::Tested;
 use answers::numbers;
 use edit::put_list;
@@ -62,7 +62,7 @@ fn answer(list: &mut [u64], card: &mut [u64], place: u64, row: &[u64]) -> Answer
 }
 
 // The public entry: replaces the row at `place` and works out its path on the card, or refuses by number, place and field.
-pub fn replace(list: &mut [u64], card: &mut [u64], place: u64, row: &[u64]) -> Given
+pub fn replace(list: &mut [u64], card: &mut [u64], place: u64, row: &[u64]) -> [u64; NUMBERS]
     ensures { λ g. ⌜ Gave (replaced (now (list .entry)) (now (card .entry)) place (now (row .entry))) g (now (list .exit)) (now (card .exit)) ⌝ }
 {
     numbers(answer(list, card, place, row))

@@ -15,7 +15,7 @@ use Rattle.answers.specs.declared.Tested.the-variants.{Passed, Refused}
 use Rattle.row.specs.Row.{rows, field, rowAt}
 use Rattle.settle.specs.declared.Outcome.{Outcome}
 use Rattle.settle.specs.declared.Settled.{Settled}
-use Rattle.settle.specs.declared.Settled.the-variants.{Set, NoPickup, NoDelay}
+use Rattle.settle.specs.declared.Settled.the-variants.{Set, Unset}
 use Rattle.settle.specs.Fed.{settledBy}
 use Rattle.settle.specs.Settle.{settled}
 use Rattle.work.specs.Card.{pickupIn, delayIn, putRow}
@@ -69,8 +69,7 @@ module _ (l : List ℕ) (i : ℕ) (c s : List ℕ) (r : ClimbReady l i c s) wher
       where
         by-cases : (o : Settled) → Stepped (stepBy (rowAt l i) i c s o) t c′ s′ → Reworked (onSettled i o (λ o. workOut l above (putRow c i o))) c (Refused a) c′
         by-cases (Set o) z = absurd (never (sym (z .answer) ∙ e))
-        by-cases NoPickup z = record { answer = sym e ∙ z .answer; card = z .card }
-        by-cases NoDelay z = record { answer = sym e ∙ z .answer; card = z .card }
+        by-cases (Unset why) z = record { answer = sym e ∙ z .answer; card = z .card }
 
     -- its outcome, where it passed
     record Passes : Type 0 where
@@ -93,8 +92,7 @@ module _ (l : List ℕ) (i : ℕ) (c s : List ℕ) (r : ClimbReady l i c s) wher
               sums = z .sums;
               rest = goes-on ∙ ap (λ (s : Settled). onSettled i s (λ o. workOut l above (putRow c i o))) q;
             }
-        by-cases NoPickup q z = absurd (never (sym e ∙ z .answer))
-        by-cases NoDelay q z = absurd (never (sym e ∙ z .answer))
+        by-cases (Unset why) q z = absurd (never (sym e ∙ z .answer))
 
     module _ (e : t ≡ Passed) (f : ℕ) (ef : f ≡ field l i 1) where
       -- the source feeds it: the path ends

@@ -2,7 +2,7 @@
 use mathlib.Core.Path.{_≡_, refl}
 use mathlib.Core.Bool.{true, false}
 use mathlib.Core.List.{List, [], _∷_, _++_}
-use Prim.Native.Nat.{ℕ, zero, suc, _+_, _*_, _≤_, _<_}
+use Prim.Native.Nat.{ℕ, zero, suc, _+_, _-_, _*_, _≤_, _<_}
 use native.Mathlib.Nat.{add-assoc}
 use native.Mathlib.Numerals.{one-add}
 use native.Mathlib.Omega.{arith}
@@ -10,11 +10,13 @@ use lib.ListN.{length, drop, getD, length-append}
 use lib.Seq.{drop-drop, take-append-seam}
 use borrow.Author.Tests.{le-leb, lt-leb}
 use Rattle.grid.proofs.FoldLaws.{every-at}
+use Rattle.answers.specs.Answer.{numberCount}
 use Rattle.cursor.specs.Pieces.{nameMost}
 use Rattle.text.specs.Names.{nameAtPlace, namesAt}
 use Rattle.print.specs.Write.{numberText, written, Wrote}
-use Rattle.print.specs.Card.{cardCount, lineMost, refusalMost, cardHeader, refusalHeader, lineEnd, lineText, rowsText, cardText, refusalText, placeRight, printable, Printed, cardPrinted, refusalPrinted}
+use Rattle.print.specs.Card.{cardCount, lineMost, refusalMost, cardHeader, refusalHeader, lineEnd, fieldsText, lineText, rowsText, cardText, refusalText, placeRight, printable, Printed, cardPrinted, refusalPrinted}
 use Rattle.print.proofs.DigitLaws.{number-few}
+use Rattle.print.proofs.FieldsLaws.{fields-short}
 use Rattle.print.proofs.PlaceLaws.{place-was, printable-room}
 use Rattle.print.proofs.WriteLaws.{written-none, wrote-then}
 use Rattle.print.proofs.CardLaws.{line-short}
@@ -36,30 +38,29 @@ nothing-printed out =
     record { fits = omega arith; bytes = refl; buffer = written-none out 0; count = refl }
 
 -- a refusal: too little room, or its parts one behind the other
-pub refusal-none : (number place field : ℕ) (out : List ℕ) → length out < refusalMost → Printed out (refusalPrinted number place field (length out)) out 0
+pub refusal-none : (numbers out : List ℕ) → length out < refusalMost → Printed out (refusalPrinted numbers (length out)) out 0
 unfolding refusalPrinted
-refusal-none number place field out h = rw (lt-leb refusalMost (length out) h) (nothing-printed out)
+refusal-none numbers out h = rw (lt-leb refusalMost (length out) h) (nothing-printed out)
 
 pub refusal-all :
-    (number place field : ℕ) (out o₁ o₂ o₃ o₄ o₅ : List ℕ) (r₁ r₂ r₃ r₄ r₅ : ℕ) → refusalMost ≤ length out → length o₅ ≡ length out →
-    Wrote out 0 refusalHeader o₁ r₁ → Wrote o₁ r₁ (numberText number) o₂ r₂ → Wrote o₂ r₂ (44 ∷ numberText place) o₃ r₃ →
-    Wrote o₃ r₃ (44 ∷ numberText field) o₄ r₄ → Wrote o₄ r₄ lineEnd o₅ r₅ → Printed out (refusalPrinted number place field (length out)) o₅ r₅
+    (numbers out o₁ o₂ o₃ o₄ : List ℕ) (r₁ r₂ r₃ r₄ : ℕ) → refusalMost ≤ length out → length o₄ ≡ length out →
+    Wrote out 0 refusalHeader o₁ r₁ → Wrote o₁ r₁ (numberText (getD numbers 0 0)) o₂ r₂ →
+    Wrote o₂ r₂ (fieldsText (numberCount - 1) (drop 1 numbers)) o₃ r₃ → Wrote o₃ r₃ lineEnd o₄ r₄ →
+    Printed out (refusalPrinted numbers (length out)) o₄ r₄
 unfolding refusalPrinted refusalText
-refusal-all number place field out o₁ o₂ o₃ o₄ o₅ r₁ r₂ r₃ r₄ r₅ h same w₁ w₂ w₃ w₄ w₅ =
-    let a : List ℕ = refusalHeader ++ numberText number in
-    let b : List ℕ = a ++ (44 ∷ numberText place) in
-    let c : List ℕ = b ++ (44 ∷ numberText field) in
-    let n₁ = number-few number in
-    let n₂ = number-few place in
-    let n₃ = number-few field in
-    let la : length a ≡ 21 + length (numberText number) = length-append refusalHeader (numberText number) in
-    let lb : length b ≡ length a + suc (length (numberText place)) = length-append a (44 ∷ numberText place) in
-    let lc : length c ≡ length b + suc (length (numberText field)) = length-append b (44 ∷ numberText field) in
-    let v₂ = wrote-then out 0 refusalHeader o₁ r₁ (numberText number) o₂ r₂ (omega arith) w₁ w₂ in
-    let v₃ = wrote-then out 0 a o₂ r₂ (44 ∷ numberText place) o₃ r₃ (omega arith) v₂ w₃ in
-    let v₄ = wrote-then out 0 b o₃ r₃ (44 ∷ numberText field) o₄ r₄ (omega arith) v₃ w₄ in
-    let v₅ = wrote-then out 0 c o₄ r₄ lineEnd o₅ r₅ (omega arith) v₄ w₅ in
-    rw (le-leb refusalMost (length out) h) (wrote-printed out (c ++ lineEnd) o₅ r₅ (omega (arith, length-append c lineEnd)) same v₅)
+refusal-all numbers out o₁ o₂ o₃ o₄ r₁ r₂ r₃ r₄ h same w₁ w₂ w₃ w₄ =
+    let first = numberText (getD numbers 0 0) in
+    let more = fieldsText (numberCount - 1) (drop 1 numbers) in
+    let a : List ℕ = refusalHeader ++ first in
+    let b : List ℕ = a ++ more in
+    let n = number-few (getD numbers 0 0) in
+    let m = fields-short (numberCount - 1) (drop 1 numbers) in
+    let la : length a ≡ length refusalHeader + length first = length-append refusalHeader first in
+    let lb = length-append a more in
+    let v₂ = wrote-then out 0 refusalHeader o₁ r₁ first o₂ r₂ (omega arith) w₁ w₂ in
+    let v₃ = wrote-then out 0 a o₂ r₂ more o₃ r₃ (omega arith) v₂ w₃ in
+    let v₄ = wrote-then out 0 b o₃ r₃ lineEnd o₄ r₄ (omega arith) v₃ w₄ in
+    rw (le-leb refusalMost (length out) h) (wrote-printed out (b ++ lineEnd) o₄ r₄ (omega (arith, length-append b lineEnd)) same v₄)
 
 -- the card: nothing, or its header and its rows
 pub card-none :

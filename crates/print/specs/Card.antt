@@ -5,6 +5,7 @@ use mathlib.Core.List.{List, [], _∷_, _++_}
 use Prim.Native.Nat.{ℕ, zero, suc, _+_, _-_, _*_, _/_, _≤_}
 use lib.Dec.{leb}
 use lib.ListN.{length, getD, take, drop}
+use Rattle.answers.specs.Answer.{numberCount}
 use Rattle.grid.specs.Fold.{every}
 use Rattle.cursor.specs.Pieces.{nameMost}
 use Rattle.text.specs.Names.{namesAt}
@@ -27,8 +28,8 @@ lineEnd = 13 ∷ 10 ∷ []
 
 -- k numbers, each behind a comma
 unfoldable pub fieldsText : ℕ → List ℕ → List ℕ
-fieldsText zero card = []
-fieldsText (suc k) card = (44 ∷ numberText (getD card 0 0)) ++ fieldsText k (drop 1 card)
+fieldsText zero values = []
+fieldsText (suc k) values = (44 ∷ numberText (getD values 0 0)) ++ fieldsText k (drop 1 values)
 
 -- the name and the numbers of one row
 unfoldable pub lineText : List ℕ → List ℕ → List ℕ
@@ -42,9 +43,9 @@ rowsText (name ∷ names) card = lineText name card ++ rowsText names (drop card
 unfoldable pub cardText : List (List ℕ) → List ℕ → List ℕ
 cardText names card = cardHeader ++ rowsText names card
 
-unfoldable pub refusalText : ℕ → ℕ → ℕ → List ℕ
-refusalText number place field =
-    refusalHeader ++ numberText number ++ (44 ∷ numberText place) ++ (44 ∷ numberText field) ++ lineEnd
+-- the numbers of a refusal, with commas between
+unfoldable pub refusalText : List ℕ → List ℕ
+refusalText numbers = refusalHeader ++ numberText (getD numbers 0 0) ++ fieldsText (numberCount - 1) (drop 1 numbers) ++ lineEnd
 
 -- the bytes of the card's header, and at most those of a field, of the fields, of a line of the card and of a refusal
 abbrev pub headerSize : ℕ
@@ -60,7 +61,7 @@ abbrev pub lineMost : ℕ
 lineMost = nameMost + fieldsMost + 2
 
 abbrev pub refusalMost : ℕ
-refusalMost = 85
+refusalMost = length refusalHeader + digitsMost + (numberCount - 1) * fieldMost + length lineEnd
 
 -- name i has at most 24 bytes and stands inside a text of so many bytes
 unfoldable pub placeRight : ℕ → List ℕ → ℕ → Bool
@@ -93,8 +94,8 @@ unfoldable pub cardPrinted : List ℕ → List ℕ → List ℕ → ℕ → ℕ 
 cardPrinted s places card n room =
     cond (printable (length s) places (length card) n room) (cardText (namesAt s n places) card) []
 
-unfoldable pub refusalPrinted : ℕ → ℕ → ℕ → ℕ → List ℕ
-refusalPrinted number place field room = cond (leb refusalMost room) (refusalText number place field) []
+unfoldable pub refusalPrinted : List ℕ → ℕ → List ℕ
+refusalPrinted numbers room = cond (leb refusalMost room) (refusalText numbers) []
 
 -- What printing leaves: the bytes at the start of the buffer, their number as the answer, and the rest of the buffer as it was.
 pub record Printed (out xs out′ : List ℕ) (r : ℕ) : Type 0 where

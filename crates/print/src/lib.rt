@@ -1,10 +1,11 @@
 // Printing the card and a refusal [01 §6].
 mod write;
 
+use answers::NUMBERS;
 use write::CARD;
 use write::put_block;
 use write::put_end;
-use write::put_field;
+use write::put_fields;
 use write::put_line;
 use write::put_number;
 ghost use mathlib.Core.Path.{_≡_};
@@ -19,11 +20,11 @@ ghost use Rattle.print.specs.Card.{cardCount, lineText, rowsText, placeR
 const NAME_MOST: u64 = 24;
 
 // The bytes of the card's header, of one line of the card and of a refusal, at most.
-const HEADER: usize = 26;
+pub const HEADER: usize = 26;
 
-const LINE_MOST: usize = 24 + CARD * 21 + 2;
+pub const LINE_MOST: usize = 24 + CARD * 21 + 2;
 
-const REFUSAL_MOST: usize = 85;
+const REFUSAL_MOST: usize = 21 + 20 + (NUMBERS - 1) * 21 + 2;
 
 // Name i has at most 24 bytes and stands inside the text.
 fn place_right(size: usize, names: &[u64], i: usize) -> bool
@@ -112,16 +113,15 @@ pub fn print_card(text: &[u8], names: &[u64], card: &[u64], n: usize, out: &mut 
     put_rows(out, next, text, names, card, n)
 }
 
-// A refusal in three numbers; nothing where the buffer has less than 85 bytes.
-pub fn print_refusal(number: u64, place: u64, field: u64, out: &mut [u8]) -> usize
-    ensures { λ r. ⌜ Printed (now (out .entry)) (refusalPrinted number place field (length (now (out .entry)))) (now (out .exit)) r ⌝ }
+// A refusal's numbers; nothing where the buffer has no room for the longest.
+pub fn print_refusal(numbers: [u64; NUMBERS], out: &mut [u8]) -> usize
+    ensures { λ r. ⌜ Printed (now (out .entry)) (refusalPrinted numbers (length (now (out .entry)))) (now (out .exit)) r ⌝ }
 {
     if out.len() < REFUSAL_MOST {
         return 0;
     }
     let named = put_block(out, 0, b"refused,place,field\r\n");
-    let numbered = put_number(out, named, number);
-    let placed = put_field(out, numbered, place);
-    let done = put_field(out, placed, field);
+    let begun = put_number(out, named, numbers[0]);
+    let done = put_fields(out, begun, &numbers, 1, NUMBERS - 1);
     put_end(out, done)
 }

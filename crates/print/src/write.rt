@@ -2,7 +2,7 @@
 use copy::put_bytes;
 ghost use mathlib.Core.Path.{_≡_};
 ghost use mathlib.Core.List.{[], _∷_};
-ghost use Prim.Native.Nat.{_+_, _≤_};
+ghost use Prim.Native.Nat.{_+_, _*_, _≤_};
 ghost use lib.ListN.{length, drop};
 ghost use Rattle.print.specs.Write.{Wrote, digitsMost, numberText};
 ghost use Rattle.print.specs.Card.{cardCount, fieldMost, fieldsMost, fieldsText, lineText, lineEnd};
@@ -51,15 +51,21 @@ pub(crate) fn put_end(out: &mut [u8], at: usize) -> usize
     at + 2
 }
 
-// The numbers of one card row.
-pub(crate) fn put_fields(out: &mut [u8], at: usize, card: &[u64], from: usize) -> usize
-    requires { ⌜ (at + fieldsMost ≤ length (now out)) × (from + cardCount ≤ length (now card)) ⌝ }
-    ensures { λ r. ⌜ Wrote (now (out .entry)) at (fieldsText cardCount (drop from (now (card .entry)))) (now (out .exit)) r ⌝ }
+// So many numbers from a place on, each behind a comma.
+pub(crate) fn put_fields(
+    out: &mut [u8],
+    at: usize,
+    values: &[u64],
+    from: usize,
+    count: usize,
+) -> usize
+    requires { ⌜ (at + count * fieldMost ≤ length (now out)) × (from + count ≤ length (now values)) ⌝ }
+    ensures { λ r. ⌜ Wrote (now (out .entry)) at (fieldsText count (drop from (now (values .entry)))) (now (out .exit)) r ⌝ }
 {
     let mut k = 0;
     let mut next = at;
-    while k < CARD {
-        next = put_field(out, next, card[from + k]);
+    while k < count {
+        next = put_field(out, next, values[from + k]);
         k += 1;
     }
     next
@@ -71,6 +77,6 @@ pub(crate) fn put_line(out: &mut [u8], at: usize, name: &[u8], card: &[u64], fro
     ensures { λ r. ⌜ Wrote (now (out .entry)) at (lineText (now (name .entry)) (drop from (now (card .entry)))) (now (out .exit)) r ⌝ }
 {
     let named = put_block(out, at, name);
-    let numbered = put_fields(out, named, card, from);
+    let numbered = put_fields(out, named, card, from, CARD);
     put_end(out, numbered)
 }

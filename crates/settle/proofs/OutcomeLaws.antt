@@ -6,6 +6,7 @@ use native.Mathlib.Nat.{mul-comm, le-trans}
 use native.Mathlib.Omega.{arith}
 use lib.Dec.{leb, eqb}
 use borrow.Author.Tests.{eq-eqb, ne-eqb}
+use Rattle.answers.specs.declared.Reason.the-variants.{Pickup, Delay}
 use Rattle.grid.specs.declared.Found.{Found}
 use Rattle.grid.specs.declared.Found.the-variants.{At, Nothing}
 use Rattle.grid.specs.Round.{ceilDiv}
@@ -17,7 +18,7 @@ use Rattle.settle.specs.declared.Cutoff.{Cutoff}
 use Rattle.settle.specs.declared.Cutoff.the-variants.{Fitted, NotFitted}
 use Rattle.settle.specs.declared.Fed.{Fed}
 use Rattle.settle.specs.declared.Outcome.{Outcome}
-use Rattle.settle.specs.declared.Settled.the-variants.{Set, NoPickup, NoDelay}
+use Rattle.settle.specs.declared.Settled.the-variants.{Set, Unset}
 use Rattle.settle.specs.Conditions.{staysClear, seesNear, margin}
 use Rattle.settle.specs.Fed.{pickupBy, delayBy, settledBy}
 use Rattle.settle.specs.Settle.{leastPickup, leastDelay, fitting, cutoffOf, outcomeOf}
@@ -69,11 +70,11 @@ module _ (r : Row) where
   cutoff-none e = rw e
 
   module _ (f : Fed) where
-    pub no-pickup : leastPickup r (pickupBy r f) ≡ Nothing → NoPickup ≡ settledBy r f
+    pub no-pickup : leastPickup r (pickupBy r f) ≡ Nothing → Unset Pickup ≡ settledBy r f
     unfolding settledBy outcomeOf
     no-pickup e = rw e
 
-    pub no-delay : (I : ℕ) → leastPickup r (pickupBy r f) ≡ At I → leastDelay r (delayBy r f) ≡ Nothing → NoDelay ≡ settledBy r f
+    pub no-delay : (I : ℕ) → leastPickup r (pickupBy r f) ≡ At I → leastDelay r (delayBy r f) ≡ Nothing → Unset Delay ≡ settledBy r f
     unfolding settledBy outcomeOf
     no-delay I e g = rw (e, g)
 
@@ -105,13 +106,13 @@ module _ (r : Row) where
         cutoff-is = sym (ap (λ (o : Outcome). o .cutoff) q);
       }
 
-  pub outcome-no-pickup : (a b : Found) → outcomeOf r a b ≡ NoPickup → a ≡ Nothing
+  pub outcome-no-pickup : (a b : Found) → outcomeOf r a b ≡ Unset Pickup → a ≡ Nothing
   unfolding outcomeOf
   outcome-no-pickup Nothing b e = refl
   outcome-no-pickup (At I) Nothing e = absurd (let z : _≡_ {A = ℕ} 0 1 = cc in omega arith)
   outcome-no-pickup (At I) (At t) e = absurd (let z : _≡_ {A = ℕ} 0 1 = cc in omega arith)
 
-  pub outcome-no-delay : (a b : Found) → outcomeOf r a b ≡ NoDelay → ((I : ℕ) × (a ≡ At I)) × (b ≡ Nothing)
+  pub outcome-no-delay : (a b : Found) → outcomeOf r a b ≡ Unset Delay → ((I : ℕ) × (a ≡ At I)) × (b ≡ Nothing)
   unfolding outcomeOf
   outcome-no-delay Nothing b e = absurd (let z : _≡_ {A = ℕ} 0 1 = cc in omega arith)
   outcome-no-delay (At I) Nothing e = ((I, refl), refl)

@@ -2,6 +2,7 @@
 use mathlib.Core.Bool.{Bool, cond, _&&_}
 use mathlib.Core.List.{List}
 use Prim.Native.Nat.{ℕ}
+use Rattle.answers.specs.declared.Reason.the-variants.{Pickup, Delay}
 use Rattle.grid.specs.declared.Found.{Found}
 use Rattle.grid.specs.declared.Found.the-variants.{At, Nothing}
 use Rattle.grid.specs.Grid.{leastOn}
@@ -10,7 +11,7 @@ use Rattle.row.specs.Row.{rowAt}
 use Rattle.settle.specs.declared.Cutoff.{Cutoff}
 use Rattle.settle.specs.declared.Cutoff.the-variants.{Fitted, NotFitted}
 use Rattle.settle.specs.declared.Settled.{Settled}
-use Rattle.settle.specs.declared.Settled.the-variants.{Set, NoPickup, NoDelay}
+use Rattle.settle.specs.declared.Settled.the-variants.{Set, Unset}
 use Rattle.settle.specs.Conditions.{eachFed, returnsAfterSelfStart, clearOf, seesOwnZone, backsUp, withinDelays, gradedAbove, staysClear, seesNear}
 
 -- pickup I of row i meets P1 to P4
@@ -46,8 +47,8 @@ printed NotFitted = 0
 
 -- a row's outcome, PICKUP before DELAY
 unfoldable pub outcomeOf : Row → Found → Found → Settled
-outcomeOf r Nothing delay = NoPickup
-outcomeOf r (At I) Nothing = NoDelay
+outcomeOf r Nothing delay = Unset Pickup
+outcomeOf r (At I) Nothing = Unset Delay
 outcomeOf r (At I) (At t) = Set (record { pickup = I; delay = t; cutoff = cutoffOf r })
 
 -- the least settings of row i

@@ -1,4 +1,5 @@
 // Section 3 of the scope: one row's least settings, from its fields and what the rows that it feeds ask of it.
+use answers::Reason;
 use grid::Found;
 use grid::ceil_div;
 use grid::greater;
@@ -26,10 +27,10 @@ pub struct Outcome {
     pub cutoff: Cutoff,
 }
 
+// A row settled, or why it can't be.
 pub enum Settled {
     Set(Outcome),
-    NoPickup,
-    NoDelay,
+    Unset(Reason),
 }
 
 // What the rows that a row feeds ask of it: the sum of their loads, and over them the greatest clearance,
@@ -119,9 +120,9 @@ pub fn settle(r: Row, f: Fed) -> Settled
     ensures { λ s. ⌜ s ≡ settledBy r f ⌝ }
 {
     match least_pickup(r, f) {
-        Found::Nothing => Settled::NoPickup,
+        Found::Nothing => Settled::Unset(Reason::Pickup),
         Found::At(pickup) => match least_delay(r, f) {
-            Found::Nothing => Settled::NoDelay,
+            Found::Nothing => Settled::Unset(Reason::Delay),
             Found::At(delay) => Settled::Set(Outcome {
                 pickup,
                 delay,

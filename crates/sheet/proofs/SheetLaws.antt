@@ -1,35 +1,32 @@
--- What is printed for a text is what the printers leave, one law for each way that the text goes. Assumes nothing.
-use mathlib.Core.Path.{_≡_, refl, sym, ap, ap₂, _∙_, subst}
+-- What is printed for a text is what the printers leave, one law for each way that the text goes.
+use mathlib.Core.Path.{_≡_, refl, sym, ap, ap₂, _∙_}
 use mathlib.Core.Bool.{true}
 use mathlib.Core.List.{List, _∷_, _++_}
 use Prim.Native.Nat.{ℕ, zero, suc, _+_, _-_, _*_, _/_, _≤_, _<_, min}
 use native.Mathlib.Nat.{min-eq-left}
 use native.Mathlib.Omega.{arith}
 use lib.ListN.{length, getD, take, drop, List·getD-append}
-use lib.Seq.{take-all, take-at, drop-append-le, length-take-le}
+use lib.Seq.{paste, take-all, take-at, drop-append-le, length-take-le}
 use borrow.Author.Tests.{le-leb, lt-leb, eq-eqb, ne-eqb}
 use Rattle.grid.proofs.BoolLaws.{and-both}
 use Rattle.grid.proofs.FoldLaws.{every-of}
-use Rattle.answers.specs.declared.Answer.the-variants.{Count}
-use Rattle.answers.specs.declared.Given.{Given}
+use Rattle.answers.specs.declared.Answer.the-variants as answer
 use Rattle.answers.specs.Answer.{givenBy}
 use Rattle.rows.proofs.TestLaws.{size-over}
 use Rattle.line.specs.Line.{fieldCount}
 use Rattle.text.specs.declared.Reading.the-variants.{BadLine, Rows}
 use Rattle.text.specs.Names.{nameAtPlace, namesAt}
-use Rattle.text.specs.Text.{reading, readingNumber, readingPlace, rowNumbers, rowPlaces, over, blocksOver}
-use Rattle.print.specs.Card.{cardText, placeRight, printable, cardPrinted, refusalPrinted, Printed}
-use Rattle.print.proofs.PrintLaws.{nothing-printed}
+use Rattle.text.specs.Text.{reading, rowNumbers, rowPlaces, over, blocksOver}
+use Rattle.print.specs.Card.{placeRight, printable, cardPrinted, refusalMost, refusalPrinted, Printed}
+use Rattle.print.specs.Write.{written}
+use Rattle.print.proofs.PrintLaws.{nothing-printed, wrote-printed}
+use Rattle.print.proofs.WriteLaws.{pasted-written, written-long}
 use Rattle.whole.specs.Ready.{Gave}
 use Rattle.whole.specs.Whole.{whole}
 use Rattle.whole.proofs.AnswerLaws.{answered-size}
 use Rattle.sheet.specs.Ready.{RowsReady}
-use Rattle.sheet.specs.Sheet.{namesOf, blankCard, givenText, readText, sheetText, sheetMost, sheetPrinted}
+use Rattle.sheet.specs.Sheet.{namesOf, blankCard, Sheet, refusedWith, sheetWith, sheetBy, sheetOf, fitted, sheetMost, Filled}
 use Rattle.sheet.proofs.PlaceLaws.{PlaceInside, RowsStand, rows-stand}
-
--- bytes that are printed are printed by whatever name they have
-pub printed-as : {out out′ xs ys : List ℕ} {r : ℕ} → xs ≡ ys → Printed out xs out′ r → Printed out ys out′ r
-printed-as {out} {out′} {xs} {ys} {r} e p = subst (λ (zs : List ℕ). Printed out zs out′ r) e p
 
 -- a buffer over whose start n blocks of w numbers were written
 blocks-front : (w n : ℕ) (xs l : List ℕ) → n ≤ 256 → length xs ≡ n * w → blocksOver 256 w n xs l ≡ xs ++ drop (length xs) l
@@ -88,42 +85,70 @@ module _ (s list names : List ℕ) (n room : ℕ) (r : RowsReady s list names n 
         (λ k h. rw names-is (right-front (length s) (rowPlaces s) _ k (omega (arith, stand .places-long)) (stand .inside k h))))
 
     -- the whole calculation of the numbers read
-    module _ (g : Given) (card : List ℕ) (z : Gave (whole (take (n * 18) list) blankCard) g card) where
+    module _ (g card : List ℕ) (z : Gave (whole (take (n * 18) list) blankCard) g card) where
       given-is : g ≡ givenBy (whole (rowNumbers s) blankCard .answer)
       given-is = z .numbers ∙ ap (λ (l : List ℕ). givenBy (whole l blankCard .answer)) numbers-front
 
       card-is : card ≡ whole (rowNumbers s) blankCard .card
       card-is = z .card ∙ ap (λ (l : List ℕ). whole l blankCard .card) numbers-front
 
-      reads-as : readText s (Rows n) ≡ givenText s g card
-      unfolding readText
-      reads-as = sym (ap₂ (givenText s) given-is card-is)
+      sheet-is : sheetOf s ≡ sheetWith (namesOf s) card g
+      unfolding sheetOf sheetBy
+      sheet-is = rw (r .read) (sym (ap₂ (sheetWith (namesOf s)) card-is given-is))
 
-      pub card-printed : g .number ≡ 0 → length card ≡ 768 → cardPrinted s names card n room ≡ readText s (Rows n)
-      unfolding cardPrinted givenText
-      card-printed e k = rw (can-print card k) (ap (λ (ns : List (List ℕ)). cardText ns card) all-names ∙ sym (reads-as ∙ rw (eq-eqb (g .number) 0 e)))
+      pub card-filled :
+          (out out′ : List ℕ) (bytes : ℕ) → room ≡ length out → length card ≡ 768 → getD g 0 0 ≡ 0 → Printed out (cardPrinted s names card n room) out′ bytes →
+          Filled (sheetOf s) out g bytes out′
+      unfolding cardPrinted sheetWith
+      card-filled out out′ bytes same long e p =
+          let q = rw (can-print card long, all-names) at p in
+          rw (sheet-is, eq-eqb (getD g 0 0) 0 e) (record { numbers = refl; printed = q })
 
-      pub refusal-printed : (g .number ≡ 0 → ⊥) → refusalPrinted (g .number) (g .place) (g .field) room ≡ readText s (Rows n)
-      unfolding refusalPrinted givenText
-      refusal-printed e = rw (le-leb 85 room (let o = r .out-room in omega arith)) (sym (reads-as ∙ rw (ne-eqb (g .number) 0 e)))
+      pub refusal-filled : (out out′ g′ : List ℕ) (bytes : ℕ) → (getD g 0 0 ≡ 0 → ⊥) → Filled (refusedWith g) out g′ bytes out′ → Filled (sheetOf s) out g′ bytes out′
+      unfolding sheetWith
+      refusal-filled out out′ g′ bytes e f = rw (sheet-is, ne-eqb (getD g 0 0) 0 e) f
 
   -- more than 256 rows
-  pub many-printed : 256 < n → refusalPrinted 2 0 0 room ≡ readText s (Rows n)
-  unfolding refusalPrinted readText givenText
-  many-printed h =
-      let e : whole (rowNumbers s) blankCard .answer ≡ Count = sym (answered-size (rowNumbers s) blankCard _ Count refl (sym (size-over (length (rowNumbers s)) (length blankCard) (omega (arith, stand .numbers-long)) (omega (arith, stand .numbers-long)) (omega (arith, stand .numbers-long)))) .answer) in
-      rw (le-leb 85 room (let o = r .out-room in omega arith), e)
+  pub many-filled : (g out out′ g′ : List ℕ) (bytes : ℕ) → g ≡ givenBy answer.Count → 256 < n → Filled (refusedWith g) out g′ bytes out′ → Filled (sheetOf s) out g′ bytes out′
+  unfolding sheetOf sheetBy sheetWith
+  many-filled g out out′ g′ bytes q h f =
+      let long = stand .numbers-long in
+      let size = size-over (length (rowNumbers s)) (length blankCard) (omega arith) (omega arith) (omega arith) in
+      let e = answered-size (rowNumbers s) blankCard _ answer.Count refl (sym size) .answer in
+      rw (r .read, ← e) (rw q at f)
 
--- a bad line, and a text that was read, in a buffer with room enough
-module _ (s : List ℕ) (room : ℕ) where
-  pub bad-printed : (line : ℕ) → sheetMost ≤ room → reading s ≡ BadLine line → refusalPrinted 1 line 0 room ≡ sheetPrinted s room
-  unfolding refusalPrinted sheetPrinted sheetText readText readingNumber readingPlace
-  bad-printed line h e = rw (le-leb 85 room (omega arith), le-leb sheetMost room h, e)
+-- a bad line
+pub bad-filled : (s : List ℕ) (line : ℕ) (g out out′ g′ : List ℕ) (bytes : ℕ) → reading s ≡ BadLine line → g ≡ givenBy (answer.Text line) → Filled (refusedWith g) out g′ bytes out′ → Filled (sheetOf s) out g′ bytes out′
+unfolding sheetOf sheetBy
+bad-filled s line g out out′ g′ bytes e q f = rw e (rw q at f)
 
-  pub read-printed : (n : ℕ) → sheetMost ≤ room → reading s ≡ Rows n → readText s (Rows n) ≡ sheetPrinted s room
-  unfolding sheetPrinted sheetText
-  read-printed n h e = rw (le-leb sheetMost room h, e)
+-- a refusal in a buffer with room for any sheet
+pub refused-filled : (g out out′ : List ℕ) (bytes : ℕ) → sheetMost ≤ length out → Printed out (refusalPrinted g (length out)) out′ bytes → Filled (refusedWith g) out g bytes out′
+unfolding refusalPrinted
+refused-filled g out out′ bytes h p = record { numbers = refl; printed = rw (le-leb refusalMost (length out) (omega arith)) at p }
 
-pub no-room : (s out : List ℕ) → length out < sheetMost → Printed out (sheetPrinted s (length out)) out 0
-unfolding sheetPrinted
-no-room s out h = rw (lt-leb sheetMost (length out) h) (nothing-printed out)
+-- what was printed aside goes into a lent buffer whole, or not at all
+module _ (z : Sheet) (space space′ g : List ℕ) (bytes : ℕ) (f : Filled z space g bytes space′) (out : List ℕ) where
+  pub fits-filled : (out′ : List ℕ) → bytes ≤ length out → out′ ≡ paste out 0 (take bytes space′) (length (take bytes space′)) → Filled (fitted (length out) z) out g bytes out′
+  unfolding fitted
+  fits-filled out′ h e =
+      let k = f .printed .count in
+      let q : out′ ≡ written out 0 (z .text) = rw (f .printed .bytes) at e ∙ pasted-written out 0 (z .text) in
+      let w : length out′ ≡ length out = ap length q ∙ written-long out 0 (z .text) (omega arith) in
+      rw (le-leb (length (z .text)) (length out) (omega arith))
+      (record { numbers = f .numbers; printed = wrote-printed out (z .text) out′ bytes (omega arith) w (record { bytes = q; end = omega arith }) })
+
+  module _ (h : length out < bytes) where
+    pub card-unfit : (g′ : List ℕ) → getD g 0 0 ≡ 0 → g′ ≡ givenBy answer.Room → Filled (fitted (length out) z) out g′ 0 out
+    unfolding fitted
+    card-unfit g′ e q =
+        let k = f .printed .count in
+        rw (lt-leb (length (z .text)) (length out) (omega arith), ← f .numbers, eq-eqb (getD g 0 0) 0 e)
+        (record { numbers = q; printed = nothing-printed out })
+
+    pub refusal-unfit : (getD g 0 0 ≡ 0 → ⊥) → Filled (fitted (length out) z) out g 0 out
+    unfolding fitted
+    refusal-unfit e =
+        let k = f .printed .count in
+        rw (lt-leb (length (z .text)) (length out) (omega arith), ← f .numbers, ne-eqb (getD g 0 0) 0 e)
+        (record { numbers = refl; printed = nothing-printed out })

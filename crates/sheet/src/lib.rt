@@ -1,56 +1,103 @@
 // From the text of a list to the printed card or refusal [01 §6].
+use answers::Answer;
+use answers::NUMBERS;
+use answers::numbers;
+use copy::put_bytes;
+use print::HEADER;
+use print::LINE_MOST;
 use print::print_card;
 use print::print_refusal;
 use text::Reading;
 use text::read_text;
 use whole::whole;
-ghost use mathlib.Core.Path.{_≡_};
 ghost use Prim.Native.Nat.{_≤_};
 ghost use lib.ListN.{length};
-ghost use Rattle.print.specs.Card.{Printed};
-ghost use Rattle.text.specs.declared.Reading.the-variants.{Rows};
-ghost use Rattle.sheet.specs.Sheet.{sheetPrinted, readText};
+ghost use Rattle.sheet.specs.Sheet.{sheetMost, refusedWith, sheetOf, fitted, Filled};
 ghost use Rattle.sheet.specs.Ready.{RowsReady};
 
 // Room for 256 rows: their numbers, their names' places, their card, and what is printed of it.
-const LIST: usize = 4608;
+const ROWS: usize = 256;
 
-const NAMES: usize = 512;
+const LIST: usize = ROWS * 18;
 
-const CARD: usize = 768;
+const NAMES: usize = ROWS * 2;
 
-pub const SHEET_MOST: usize = 22810;
+const CARD: usize = ROWS * 3;
+
+pub const SHEET_MOST: usize = HEADER + ROWS * LINE_MOST;
+
+// What is given for a text: the answer's numbers, and how many bytes are printed.
+pub struct Page {
+    pub numbers: [u64; NUMBERS],
+    pub bytes: usize,
+}
+
+fn refuse(given: [u64; NUMBERS], out: &mut [u8]) -> Page
+    requires { ⌜ sheetMost ≤ length (now out) ⌝ }
+    ensures { λ p. ⌜ Filled (refusedWith given) (now (out .entry)) (p .numbers) (p .bytes) (now (out .exit)) ⌝ }
+{
+    let bytes = print_refusal(given, out);
+    Page {
+        numbers: given,
+        bytes,
+    }
+}
 
 // Prints the card, or the refusal, of n rows that were read.
-fn print_rows(text: &[u8], list: &[u64], names: &[u64], n: usize, out: &mut [u8]) -> usize
+fn print_rows(text: &[u8], list: &[u64], names: &[u64], n: usize, out: &mut [u8]) -> Page
     requires { ⌜ RowsReady (now text) (now list) (now names) n (length (now out)) ⌝ }
-    ensures { λ r. ⌜ Printed (now (out .entry)) (readText (now (text .entry)) (Rows n)) (now (out .exit)) r ⌝ }
+    ensures { λ p. ⌜ Filled (sheetOf (now (text .entry))) (now (out .entry)) (p .numbers) (p .bytes) (now (out .exit)) ⌝ }
 {
-    if 256 < n {
-        return print_refusal(2, 0, 0, out);
+    if ROWS < n {
+        return refuse(numbers(Answer::Count), out);
     }
     let mut card = [0u64; CARD];
     let end = n * 18;
     let given = whole(&list[..end], &mut card);
-    if given.number == 0 {
-        print_card(text, names, &card, n, out)
-    } else {
-        print_refusal(given.number, given.place, given.field, out)
+    if given[0] == 0 {
+        let bytes = print_card(text, names, &card, n, out);
+        return Page {
+            numbers: given,
+            bytes,
+        };
     }
+    refuse(given, out)
 }
 
-// The printed card or refusal of a text; nothing where the buffer has less than 22,810 bytes.
-pub fn sheet(text: &[u8], out: &mut [u8]) -> usize
-    ensures { λ r. ⌜ Printed (now (out .entry)) (sheetPrinted (now (text .entry)) (length (now (out .entry)))) (now (out .exit)) r ⌝ }
+// Prints the card or the refusal of a text into a buffer with room for any.
+fn print_text(text: &[u8], out: &mut [u8]) -> Page
+    requires { ⌜ sheetMost ≤ length (now out) ⌝ }
+    ensures { λ p. ⌜ Filled (sheetOf (now (text .entry))) (now (out .entry)) (p .numbers) (p .bytes) (now (out .exit)) ⌝ }
 {
-    if out.len() < SHEET_MOST {
-        return 0;
-    }
     let mut list = [0u64; LIST];
     let mut names = [0u64; NAMES];
     let read = read_text(text, &mut list, &mut names);
     match read {
-        Reading::BadLine(line) => print_refusal(1, line, 0, out),
+        Reading::BadLine(line) => refuse(numbers(Answer::Text(line)), out),
         Reading::Rows(n) => print_rows(text, &list, &names, n, out),
+    }
+}
+
+// The card or the refusal of a text, printed into a lent buffer whole or not at all: a card that does not fit is ROOM.
+pub fn sheet(text: &[u8], out: &mut [u8]) -> Page
+    ensures { λ p. ⌜ Filled (fitted (length (now (out .entry))) (sheetOf (now (text .entry)))) (now (out .entry)) (p .numbers) (p .bytes) (now (out .exit)) ⌝ }
+{
+    let mut space = [0u8; SHEET_MOST];
+    let page = print_text(text, &mut space);
+    let given = page.numbers;
+    let bytes = page.bytes;
+    if bytes <= out.len() {
+        put_bytes(out, 0, &space[..bytes]);
+        return page;
+    }
+    if given[0] == 0 {
+        return Page {
+            numbers: numbers(Answer::Room),
+            bytes: 0,
+        };
+    }
+    Page {
+        numbers: given,
+        bytes: 0,
     }
 }

@@ -1,8 +1,11 @@
--- The study's currents [01 §5], and the numbers given back for them [01 §4]: 0 done, 8 STUDY.
+-- The study's currents [01 §5], and what is given back for them [01 §4]: DONE or STUDY.
 -- `cond b x y` is x where b is true and y where it is false. Definitions only.
 use Prim.Native.Nat.{ℕ}
 use mathlib.Core.Bool.{Bool, true, false, not, _&&_, _||_, cond}
 use lib.Ieee.{Float}
+use Rattle.answers.specs.declared.Answer.{Answer}
+use Rattle.answers.specs.declared.Answer.the-variants as answer
+use Rattle.answers.specs.Answer.{numberOf, placeOf}
 use Rattle.single.specs.SingleCurrent.{allowed, currentOf}
 use Rattle.single.specs.declared.Rounding.{Rounding}
 use Rattle.single.specs.declared.Rounding.the-variants.{Up, Down}
@@ -37,13 +40,17 @@ needed (PerUnit x) = true
 abbrev pub ratedFits : Reading → Bool
 ratedFits r = not (needed (r .quantity)) || allowed (r .rated)
 
+-- an answer's number and place, with both currents
+abbrev pub given : Answer → ℕ → ℕ → Converted
+given a g l = record { number = numberOf a; place = placeOf a; greatest = g; least = l }
+
 -- STUDY at a place
 abbrev pub refusedAt : ℕ → Converted
-refusedAt place = record { number = 8; place = place; greatest = 0; least = 0 }
+refusedAt place = given (answer.Study place) 0 0
 
--- the numbers of section 4 for the two currents
+-- what is given for the two currents
 abbrev pub answerOf : Current → Current → Converted
-answerOf (Milliamperes g) (Milliamperes l) = record { number = 0; place = 0; greatest = g; least = l }
+answerOf (Milliamperes g) (Milliamperes l) = given answer.Done g l
 answerOf (Milliamperes g) Refused = refusedAt 2
 answerOf Refused l = refusedAt 1
 

@@ -2,7 +2,9 @@
 
 ghost use mathlib.Core.Path.{_≡_};
 ghost use lib.Dec.{T};
-ghost use Rattle.study.specs.Currents.{ratedFits, readingOf, refusedAt, answerOf, convertOf};
+ghost use Rattle.study.specs.Currents.{ratedFits, readingOf, given, refusedAt, answerOf, convertOf};
+use answers::Answer;
+use answers::numbers;
 use single::Current;
 use single::Rounding;
 use single::allowed_current;
@@ -26,7 +28,7 @@ pub struct Study {
     pub least: Reading,
 }
 
-// The numbers given back [01 §4]: number 0 with both currents in mA, or number 8 with the place and both currents 0.
+// The numbers given back [01 §4]: DONE with both currents in mA, or STUDY with its place and both currents 0.
 pub struct Converted {
     pub number: u64,
     pub place: u64,
@@ -61,16 +63,24 @@ fn rated_fits(reading: Reading) -> bool
     }
 }
 
+// An answer's number and place, with both currents.
+fn given(a: Answer, greatest: u64, least: u64) -> Converted
+    ensures { λ r. ⌜ r ≡ given a greatest least ⌝ }
+{
+    let n = numbers(a);
+    Converted {
+        number: n[0],
+        place: n[1],
+        greatest,
+        least,
+    }
+}
+
 // STUDY at a place.
-fn refused(place: u64) -> Converted
+pub fn refused(place: u64) -> Converted
     ensures { λ r. ⌜ r ≡ refusedAt place ⌝ }
 {
-    Converted {
-        number: 8,
-        place,
-        greatest: 0,
-        least: 0,
-    }
+    given(Answer::Study(place), 0, 0)
 }
 
 // What is given back for the two currents: a refused greatest comes before a refused least.
@@ -83,12 +93,7 @@ fn answer(greatest: Current, least: Current) -> Converted
     let Current::Milliamperes(l) = least else {
         return refused(2);
     };
-    Converted {
-        number: 0,
-        place: 0,
-        greatest: g,
-        least: l,
-    }
+    given(Answer::Done, g, l)
 }
 
 // The two currents of a study, the greatest rounded up and the least down. The rated currents are tested before either reading.

@@ -1,26 +1,27 @@
 // The C boundary: the functions of include/surfpocket.h. Each calls one proved entry and hands its numbers on.
-use answers::Given;
+use answers::NUMBERS;
 use change::replace;
 use sheet::sheet;
+use study::Converted;
 use study::Quantity;
 use study::Reading;
 use study::Study;
 use study::convert;
+use study::refused;
 use whole::whole;
 ghost use mathlib.Core.Path.{_≡_};
 ghost use lib.ListN.{length};
-ghost use Rattle.print.specs.Card.{Printed};
 ghost use Rattle.change.specs.Replace.{replaced};
-ghost use Rattle.sheet.specs.Sheet.{sheetPrinted};
+ghost use Rattle.sheet.specs.Sheet.{sheetOf, fitted, Filled};
 ghost use Rattle.whole.specs.Whole.{whole};
-ghost use Rattle.surfpocket.specs.Answers.{answerOf, Gave, GaveBoth};
-ghost use Rattle.surfpocket.specs.Studies.{unitOf, studyOf, studied, refused};
+ghost use Rattle.whole.specs.Ready.{Gave};
+ghost use Rattle.change.specs.Ready.{Gave as GaveBoth};
+ghost use Rattle.surfpocket.specs.Studies.{unitOf, handed, studyOf};
+ghost use Rattle.surfpocket.specs.Version.{version};
 
 #[repr(C)]
 pub struct SurfpocketAnswer {
-    pub number: u64,
-    pub place: u64,
-    pub field: u64,
+    pub numbers: [u64; NUMBERS],
 }
 
 #[repr(C)]
@@ -31,23 +32,30 @@ pub struct SurfpocketStudy {
     pub least: u64,
 }
 
-// An answer's three numbers.
-fn answered(g: Given) -> SurfpocketAnswer
-    ensures { λ a. ⌜ a ≡ answerOf g ⌝ }
+#[repr(C)]
+pub struct SurfpocketPrinted {
+    pub numbers: [u64; NUMBERS],
+    pub bytes: usize,
+}
+
+// It grows with every change of what is lent or given.
+const VERSION: u64 = 1;
+
+#[no_mangle]
+pub extern "C" fn surfpocket_version() -> u64
+    ensures { λ v. ⌜ v ≡ version ⌝ }
 {
-    SurfpocketAnswer {
-        number: g.number,
-        place: g.place,
-        field: g.field,
-    }
+    VERSION
 }
 
 // The whole calculation [01 §4].
 #[no_mangle]
 pub extern "C" fn surfpocket_whole(list: &[u64], card: &mut [u64]) -> SurfpocketAnswer
-    ensures { λ a. ⌜ Gave (whole (now (list .entry)) (now (card .entry))) a (now (card .exit)) ⌝ }
+    ensures { λ a. ⌜ Gave (whole (now (list .entry)) (now (card .entry))) (a .numbers) (now (card .exit)) ⌝ }
 {
-    answered(whole(list, card))
+    SurfpocketAnswer {
+        numbers: whole(list, card),
+    }
 }
 
 // The replacement of one row [01 §4].
@@ -58,9 +66,11 @@ pub extern "C" fn surfpocket_replace(
     place: u64,
     row: &[u64],
 ) -> SurfpocketAnswer
-    ensures { λ a. ⌜ GaveBoth (replaced (now (list .entry)) (now (card .entry)) place (now (row .entry))) a (now (list .exit)) (now (card .exit)) ⌝ }
+    ensures { λ a. ⌜ GaveBoth (replaced (now (list .entry)) (now (card .entry)) place (now (row .entry))) (a .numbers) (now (list .exit)) (now (card .exit)) ⌝ }
 {
-    answered(replace(list, card, place, row))
+    SurfpocketAnswer {
+        numbers: replace(list, card, place, row),
+    }
 }
 
 // A single in the unit of that number, if there is one.
@@ -80,21 +90,9 @@ fn in_unit(unit: u64, x: f32) -> InUnit
     }
 }
 
-fn no_unit() -> SurfpocketStudy
-    ensures { λ a. ⌜ a ≡ refused ⌝ }
+fn hand_on(c: Converted) -> SurfpocketStudy
+    ensures { λ a. ⌜ a ≡ handed c ⌝ }
 {
-    SurfpocketStudy {
-        number: 8,
-        place: 0,
-        greatest: 0,
-        least: 0,
-    }
-}
-
-fn converted(s: Study) -> SurfpocketStudy
-    ensures { λ a. ⌜ a ≡ studied s ⌝ }
-{
-    let c = convert(s);
     SurfpocketStudy {
         number: c.number,
         place: c.place,
@@ -116,12 +114,12 @@ pub extern "C" fn surfpocket_study(
     ensures { λ a. ⌜ a ≡ studyOf (unitOf «greatest_unit» greatest) «greatest_rated» (unitOf «least_unit» least) «least_rated» ⌝ }
 {
     let InUnit::Known(g) = in_unit(greatest_unit, greatest) else {
-        return no_unit();
+        return hand_on(refused(0));
     };
     let InUnit::Known(l) = in_unit(least_unit, least) else {
-        return no_unit();
+        return hand_on(refused(0));
     };
-    converted(Study {
+    hand_on(convert(Study {
         greatest: Reading {
             quantity: g,
             rated: greatest_rated,
@@ -130,13 +128,18 @@ pub extern "C" fn surfpocket_study(
             quantity: l,
             rated: least_rated,
         },
-    })
+    }))
 }
 
 // From the text of a list to its printed card or refusal [01 §6].
 #[no_mangle]
-pub extern "C" fn surfpocket_card(text: &[u8], out: &mut [u8]) -> usize
-    ensures { λ r. ⌜ Printed (now (out .entry)) (sheetPrinted (now (text .entry)) (length (now (out .entry)))) (now (out .exit)) r ⌝ }
+pub extern "C" fn surfpocket_card(text: &[u8], out: &mut [u8]) -> SurfpocketPrinted
+    ensures { λ a. ⌜ Filled (fitted (length (now (out .entry))) (sheetOf (now (text .entry)))) (now (out .entry)) (a .numbers) (a .bytes) (now (out .exit)) ⌝ }
 {
-    sheet(text, out)
+    let page = sheet(text, out);
+    let given = page.numbers;
+    SurfpocketPrinted {
+        numbers: given,
+        bytes: page.bytes,
+    }
 }

@@ -21,7 +21,7 @@ use Rattle.answers.specs.declared.Tested.the-variants.{Passed, Refused}
 use Rattle.row.specs.Row.{rows, rowAt}
 use Rattle.rows.proofs.InRangeLaws.{passed-in-range, passed-feeds}
 use Rattle.settle.specs.declared.Settled.{Settled}
-use Rattle.settle.specs.declared.Settled.the-variants.{Set, NoPickup, NoDelay}
+use Rattle.settle.specs.declared.Settled.the-variants.{Set, Unset}
 use Rattle.settle.specs.Fed.{settledBy}
 use Rattle.settle.specs.Settle.{settled}
 use Rattle.work.specs.Card.{pickupIn, delayIn, putRow}
@@ -133,8 +133,7 @@ module _ (l c₀ s₀ c s : List ℕ) (i : ℕ) (v : Passing l c₀ s₀ c s i) 
     where
       by-cases : (o : Settled) → Refused a ≡ stepBy (rowAt l i) i c s o .tested → onSettled i o (λ o. workOut l (upFrom (i + 1) (rows l - (i + 1))) (putRow c i o)) ≡ refused a
       by-cases (Set o) e = absurd (let z : _≡_ {A = ℕ} 0 1 = cc in omega arith)
-      by-cases NoPickup e = ap refused (same-answer (sym e))
-      by-cases NoDelay e = ap refused (same-answer (sym e))
+      by-cases (Unset why) e = ap refused (same-answer (sym e))
 
   pub all-next : (t : Tested) (c′ s′ : List ℕ) → t ≡ Passed → Stepped (step l i c s) t c′ s′ → Passing l c₀ s₀ c′ s′ (i + 1)
   unfolding step stepBy onSettled
@@ -151,8 +150,7 @@ module _ (l c₀ s₀ c s : List ℕ) (i : ℕ) (v : Passing l c₀ s₀ c s i) 
             card-length = putRow-length c i o ∙ v .card-length;
             sums-length = pushed-length (rowAt l i) (o .pickup) (o .delay) s ∙ v .sums-length;
           })
-      by-cases NoPickup e z = absurd (never (sym p ∙ z .answer))
-      by-cases NoDelay e z = absurd (never (sym p ∙ z .answer))
+      by-cases (Unset why) e z = absurd (never (sym p ∙ z .answer))
 
 pub all-end : (l c₀ s₀ c s : List ℕ) (i : ℕ) → Passing l c₀ s₀ c s i → rows l ≤ i → calculation l c₀ ≡ workedAs Passed c
 unfolding workOut upFrom workedAs

@@ -20,7 +20,7 @@ use Rattle.rows.specs.InRange.{InRange, Feeds}
 use Rattle.rows.proofs.InRangeLaws.{feeder-above, feeder-of-last}
 use Rattle.settle.specs.declared.Outcome.{Outcome}
 use Rattle.settle.specs.declared.Settled.{Settled}
-use Rattle.settle.specs.declared.Settled.the-variants.{Set, NoPickup, NoDelay}
+use Rattle.settle.specs.declared.Settled.the-variants.{Set, Unset}
 use Rattle.settle.specs.Conditions.{fed, loadOf}
 use Rattle.settle.specs.Fed.{clearance, shortfall, earliest, gathered, settledBy}
 use Rattle.settle.specs.Settle.{settled}
@@ -142,8 +142,7 @@ module _ (l : List ℕ) (a : InRange l) (b : Feeds l) where
           ((o : Outcome) → workOut l (upFrom (suc i) m) (putRow c′ i o) ≡ framed (rows l * 3) (putRow c′ i o) (workOut l (upFrom (suc i) m) (putRow c i o))) →
           onSettled i s (λ o. workOut l (upFrom (suc i) m) (putRow c′ i o)) ≡ framed (rows l * 3) c′ (onSettled i s (λ o. workOut l (upFrom (suc i) m) (putRow c i o)))
       by-cases (Set o) ih = ih o ∙ framed-drop (rows l * 3) (putRow c′ i o) c′ (workOut l (upFrom (suc i) m) (putRow c i o)) (putRow-drop c′ i o (rows l * 3) (omega arith))
-      by-cases NoPickup ih = refl
-      by-cases NoDelay ih = refl
+      by-cases (Unset why) ih = refl
 
   -- the calculation on one card gives that on any other
   pub calculation-frame : (c c′ : List ℕ) → rows l * 3 ≤ length c → rows l * 3 ≤ length c′ → calculation l c′ ≡ framed (rows l * 3) c′ (calculation l c)
@@ -173,8 +172,7 @@ module _ (l : List ℕ) where
             same-length = k .same-length ∙ putRow-length c i o;
             past-rows = k .past-rows ∙ putRow-drop c i o (rows l * 3) (omega arith);
           }
-      by-cases NoPickup e ih = absurd (let z : _≡_ {A = ℕ} 0 1 = cc in omega arith)
-      by-cases NoDelay e ih = absurd (let z : _≡_ {A = ℕ} 0 1 = cc in omega arith)
+      by-cases (Unset why) e ih = absurd (let z : _≡_ {A = ℕ} 0 1 = cc in omega arith)
 
   pub calculation-keeps : (c c′ : List ℕ) → calculation l c ≡ finished c′ → Kept (rows l * 3) c c′
   unfolding calculation

@@ -10,13 +10,14 @@ use Rattle.grid.specs.Grid.{Available}
 use Rattle.grid.proofs.BoolLaws.{fails, not-both}
 use Rattle.grid.proofs.GridLaws.{leastOn-nothing}
 use Rattle.answers.specs.declared.Answer.{Answer}
-use Rattle.answers.specs.declared.Answer.the-variants.{Pickup, Delay}
+use Rattle.answers.specs.declared.Answer.the-variants.{Unsettled}
+use Rattle.answers.specs.declared.Reason.the-variants.{Pickup, Delay}
 use Rattle.row.specs.Row.{rows, rowAt}
 use Rattle.rows.specs.InRange.{InRange, Feeds}
 use Rattle.rows.proofs.InRangeLaws.{row-bounded}
 use Rattle.settle.specs.declared.Outcome.{Outcome}
 use Rattle.settle.specs.declared.Settled.{Settled}
-use Rattle.settle.specs.declared.Settled.the-variants.{Set, NoPickup, NoDelay}
+use Rattle.settle.specs.declared.Settled.the-variants.{Set, Unset}
 use Rattle.settle.specs.Settle.{meetsPickup, meetsDelay, leastPickup, leastDelay, settled}
 use Rattle.settle.proofs.OutcomeLaws.{outcome-no-pickup, outcome-no-delay}
 use Rattle.work.specs.Card.{pickupIn, delayIn, putRow}
@@ -41,16 +42,16 @@ pub record RefusedAt (l : List ℕ) (x : Answer) : Type 0 where
   pub within : row < rows l
   pub card : List ℕ
   pub rows-below : (j : ℕ) → j < row → RowSettled l card j
-  pub why : ((x ≡ Pickup (row + 1)) × NoPickupFits l card row) ⊎ ((x ≡ Delay (row + 1)) × NoDelayFits l card row)
+  pub why : ((x ≡ Unsettled (row + 1) Pickup) × NoPickupFits l card row) ⊎ ((x ≡ Unsettled (row + 1) Delay) × NoDelayFits l card row)
 
 module _ (l : List ℕ) (a : InRange l) (b : Feeds l) where
-  no-pickup-fits : (c : List ℕ) (i : ℕ) → i < rows l → settled l (pickupIn c) (delayIn c) i ≡ NoPickup → NoPickupFits l c i
+  no-pickup-fits : (c : List ℕ) (i : ℕ) → i < rows l → settled l (pickupIn c) (delayIn c) i ≡ Unset Pickup → NoPickupFits l c i
   unfolding settled NoPickupFits
   no-pickup-fits c i h e I v =
       leastOn-nothing _ _ _ (row-bounded l a i h .step-from) (meetsPickup l (pickupIn c) i)
       (outcome-no-pickup (rowAt l i) _ (leastDelay (rowAt l i) (meetsDelay l (delayIn c) i)) e) I v
 
-  no-delay-fits : (c : List ℕ) (i : ℕ) → settled l (pickupIn c) (delayIn c) i ≡ NoDelay → NoDelayFits l c i
+  no-delay-fits : (c : List ℕ) (i : ℕ) → settled l (pickupIn c) (delayIn c) i ≡ Unset Delay → NoDelayFits l c i
   unfolding settled NoDelayFits
   no-delay-fits c i e t =
       fails (meetsDelay l (delayIn c) i t)
@@ -74,9 +75,9 @@ module _ (l : List ℕ) (a : InRange l) (b : Feeds l) where
           ((o : Outcome) → settled l (pickupIn c) (delayIn c) i ≡ Set o → workOut l (upFrom (suc i) m) (putRow c i o) ≡ refused x → RefusedAt l x) →
           RefusedAt l x
       by-cases (Set o) s e ih = ih o s e
-      by-cases NoPickup s e ih =
+      by-cases (Unset Pickup) s e ih =
           record { row = i; within = omega arith; card = c; rows-below = all; why = inl (cc, no-pickup-fits c i (omega arith) s) }
-      by-cases NoDelay s e ih =
+      by-cases (Unset Delay) s e ih =
           record { row = i; within = omega arith; card = c; rows-below = all; why = inr (cc, no-delay-fits c i s) }
 
   pub calculation-refused : (c : List ℕ) (x : Answer) → rows l * 3 ≤ length c → calculation l c ≡ refused x → RefusedAt l x

@@ -9,7 +9,7 @@ use Rattle.row.specs.Row.{rows}
 use Rattle.rows.specs.InRange.{InRange, Feeds}
 use Rattle.settle.specs.declared.Outcome.{Outcome}
 use Rattle.settle.specs.declared.Settled.{Settled}
-use Rattle.settle.specs.declared.Settled.the-variants.{Set, NoPickup, NoDelay}
+use Rattle.settle.specs.declared.Settled.the-variants.{Set, Unset}
 use Rattle.settle.specs.Settle.{settled, printed}
 use Rattle.work.specs.Card.{pickupIn, delayIn, cutoffIn, putRow}
 use Rattle.work.specs.WorkOut.{finished, onSettled, workOut, upFrom}
@@ -77,8 +77,7 @@ module _ (l : List ℕ) (a : InRange l) (b : Feeds l) where
           ((o : Outcome) → settled l (pickupIn c) (delayIn c) i ≡ Set o → workOut l (upFrom (suc i) m) (putRow c i o) ≡ finished c′ → (j : ℕ) → j < rows l → RowSettled l c′ j) →
           (j : ℕ) → j < rows l → RowSettled l c′ j
       by-cases (Set o) s e ih = ih o s e
-      by-cases NoPickup s e ih = absurd (let z : _≡_ {A = ℕ} 0 1 = cc in omega arith)
-      by-cases NoDelay s e ih = absurd (let z : _≡_ {A = ℕ} 0 1 = cc in omega arith)
+      by-cases (Unset why) s e ih = absurd (let z : _≡_ {A = ℕ} 0 1 = cc in omega arith)
 
   pub calculation-settled : (c c′ : List ℕ) → rows l * 3 ≤ length c → calculation l c ≡ finished c′ → (j : ℕ) → j < rows l → RowSettled l c′ j
   unfolding calculation

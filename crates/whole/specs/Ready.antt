@@ -4,7 +4,6 @@ use mathlib.Core.List.{List}
 use Prim.Native.Nat.{ℕ, _*_, _≤_}
 use lib.ListN.{length, getD}
 use Rattle.answers.specs.declared.Answer.{Answer}
-use Rattle.answers.specs.declared.Given.{Given}
 use Rattle.answers.specs.declared.Tested.the-variants.{Passed}
 use Rattle.answers.specs.Answer.{givenBy}
 use Rattle.row.specs.Row.{rows}
@@ -26,6 +25,6 @@ pub record Answered (z : Result) (a : Answer) (c : List ℕ) : Type 0 where
   pub card : c ≡ z .card
 
 -- the same, the answer in section 4's numbers
-pub record Gave (z : Result) (g : Given) (c : List ℕ) : Type 0 where
+pub record Gave (z : Result) (g c : List ℕ) : Type 0 where
   pub numbers : g ≡ givenBy (z .answer)
   pub card : c ≡ z .card

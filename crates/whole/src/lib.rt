@@ -1,6 +1,6 @@
 // The whole calculation of a lent list, on a lent card [01 §4].
 use answers::Answer;
-use answers::Given;
+use answers::NUMBERS;
 use answers::Tested;
 use answers::numbers;
 use copy::put;
@@ -63,7 +63,7 @@ fn answer(list: &[u64], card: &mut [u64]) -> Answer
 }
 
 // The public entry: the settings card of a list, or the refusal by number, place and field.
-pub fn whole(list: &[u64], card: &mut [u64]) -> Given
+pub fn whole(list: &[u64], card: &mut [u64]) -> [u64; NUMBERS]
     ensures { λ g. ⌜ Gave (whole (now (list .entry)) (now (card .entry))) g (now (card .exit)) ⌝ }
 {
     numbers(answer(list, card))

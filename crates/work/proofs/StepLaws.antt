@@ -7,13 +7,14 @@ use lib.Dec.{eqb}
 use lib.ListN.{length}
 use borrow.Author.Tests.{eq-eqb, ne-eqb}
 use Rattle.row.specs.declared.Row.{Row}
-use Rattle.answers.specs.declared.Answer.the-variants.{Pickup, Delay}
+use Rattle.answers.specs.declared.Answer.the-variants.{Unsettled}
+use Rattle.answers.specs.declared.Reason.{Reason}
 use Rattle.answers.specs.declared.Tested.the-variants.{Passed, Refused}
 use Rattle.row.specs.Row.{rowAt}
 use Rattle.settle.specs.declared.Fed.{Fed}
 use Rattle.settle.specs.declared.Outcome.{Outcome}
 use Rattle.settle.specs.declared.Settled.{Settled}
-use Rattle.settle.specs.declared.Settled.the-variants.{Set, NoPickup, NoDelay}
+use Rattle.settle.specs.declared.Settled.the-variants.{Set, Unset}
 use Rattle.settle.specs.Fed.{asked, settledBy}
 use Rattle.work.specs.Card.{putRow}
 use Rattle.work.specs.Ready.{Stepped}
@@ -45,13 +46,9 @@ module _ (l : List ℕ) (i : ℕ) (c s : List ℕ) (r : Row) (f : Fed) (er : r �
   unfolding step
   settles o e = ap (stepBy (rowAt l i) i c s) (sym (e ∙ ap₂ settledBy er ef))
 
-  pub step-no-pickup : NoPickup ≡ settledBy r f → Stepped (step l i c s) (Refused (Pickup (i + 1))) c s
+  pub step-unsettled : (why : Reason) → Unset why ≡ settledBy r f → Stepped (step l i c s) (Refused (Unsettled (i + 1) why)) c s
   unfolding stepBy
-  step-no-pickup e = rw (settles NoPickup e) (record { answer = refl; card = refl; sums = refl })
-
-  pub step-no-delay : NoDelay ≡ settledBy r f → Stepped (step l i c s) (Refused (Delay (i + 1))) c s
-  unfolding stepBy
-  step-no-delay e = rw (settles NoDelay e) (record { answer = refl; card = refl; sums = refl })
+  step-unsettled why e = rw (settles (Unset why) e) (record { answer = refl; card = refl; sums = refl })
 
   pub step-set :
       (o : Outcome) (c′ s′ : List ℕ) → Set o ≡ settledBy r f → c′ ≡ putRow c i o → s′ ≡ pushed r (o .pickup) (o .delay) s →

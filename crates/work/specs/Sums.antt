@@ -5,13 +5,13 @@ use Prim.Native.Nat.{ℕ, _+_, _-_, _*_, max}
 use lib.Dec.{eqb}
 use lib.ListN.{getD, set}
 use Rattle.row.specs.declared.Row.{Row}
-use Rattle.answers.specs.declared.Answer.the-variants.{Pickup, Delay}
+use Rattle.answers.specs.declared.Answer.the-variants.{Unsettled}
 use Rattle.answers.specs.declared.Tested.{Tested}
 use Rattle.answers.specs.declared.Tested.the-variants.{Passed, Refused}
 use Rattle.row.specs.Row.{rowAt}
 use Rattle.settle.specs.declared.Fed.{Fed}
 use Rattle.settle.specs.declared.Settled.{Settled}
-use Rattle.settle.specs.declared.Settled.the-variants.{Set, NoPickup, NoDelay}
+use Rattle.settle.specs.declared.Settled.the-variants.{Set, Unset}
 use Rattle.settle.specs.Fed.{asked, settledBy}
 use Rattle.work.specs.Card.{putRow}
 
@@ -49,8 +49,7 @@ pub record Step : Type 0 where
 
 unfoldable pub stepBy : Row → ℕ → List ℕ → List ℕ → Settled → Step
 stepBy r i c s (Set o) = record { tested = Passed; card = putRow c i o; sums = pushed r (o .pickup) (o .delay) s }
-stepBy r i c s NoPickup = record { tested = Refused (Pickup (i + 1)); card = c; sums = s }
-stepBy r i c s NoDelay = record { tested = Refused (Delay (i + 1)); card = c; sums = s }
+stepBy r i c s (Unset why) = record { tested = Refused (Unsettled (i + 1) why); card = c; sums = s }
 
 unfoldable pub step : List ℕ → ℕ → List ℕ → List ℕ → Step
 step l i c s = stepBy (rowAt l i) i c s (settledBy (rowAt l i) (fedAt s i))

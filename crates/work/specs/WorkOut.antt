@@ -1,12 +1,12 @@
--- [01 §4] Rows worked out one after the other on a card: each at its least settings, the rows below as the card has them;
--- in a row PICKUP comes before DELAY. Definitions only.
+-- [01 §4] Rows worked out one after the other on a card: each at its least settings, the rows below as the card has them,
+-- or refused for its own reason. Definitions only.
 use mathlib.Core.List.{List, [], _∷_}
 use Prim.Native.Nat.{ℕ, zero, suc, _+_}
 use Rattle.answers.specs.declared.Answer.{Answer}
-use Rattle.answers.specs.declared.Answer.the-variants.{Pickup, Delay}
+use Rattle.answers.specs.declared.Answer.the-variants.{Unsettled}
 use Rattle.settle.specs.declared.Outcome.{Outcome}
 use Rattle.settle.specs.declared.Settled.{Settled}
-use Rattle.settle.specs.declared.Settled.the-variants.{Set, NoPickup, NoDelay}
+use Rattle.settle.specs.declared.Settled.the-variants.{Set, Unset}
 use Rattle.settle.specs.Settle.{settled}
 use Rattle.work.specs.Card.{pickupIn, delayIn, putRow}
 
@@ -18,8 +18,7 @@ pub data Worked : Type 0 where
 -- what follows the outcome of row i
 unfoldable pub onSettled : ℕ → Settled → (Outcome → Worked) → Worked
 onSettled i (Set o) next = next o
-onSettled i NoPickup next = refused (Pickup (i + 1))
-onSettled i NoDelay next = refused (Delay (i + 1))
+onSettled i (Unset why) next = refused (Unsettled (i + 1) why)
 
 -- the rows of `is` worked out in their order, for the list l on the card c
 unfoldable pub workOut : List ℕ → List ℕ → List ℕ → Worked

@@ -88,8 +88,7 @@ pub fn work_row(list: &[u64], i: usize, card: &mut [u64], sums: &mut [u64]) -> T
 {
     let r = row_at(list, i);
     match settle(r, fed_at(sums, i)) {
-        Settled::NoPickup => Tested::Refused(Answer::Pickup((i as u64) + 1)),
-        Settled::NoDelay => Tested::Refused(Answer::Delay((i as u64) + 1)),
+        Settled::Unset(why) => Tested::Refused(Answer::Unsettled((i as u64) + 1, why)),
         Settled::Set(o) => {
             put_row(card, i, o);
             push(r, o.pickup, o.delay, sums);

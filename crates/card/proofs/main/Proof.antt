@@ -1,5 +1,4 @@
 -- `card::main` meets its contract: what `sheet` answers is within its buffer.
--- Assumes nothing.
 use borrow.Author.Needs.{needs}
 use mathlib.Core.Path.{sym, ap, _∙_}
 use lib.ListN.{length}
@@ -29,7 +28,7 @@ array-share-prefix-out c = search needs
 
 slice-aggregate-write-all : tie.Need-slice-aggregate-write-all
 slice-aggregate-write-all c =
-    let p = c .before .before .sheet .ensures in
+    let p = c .before .before .sheet .ensures .printed in
     p .count ∙ ap length (sym (p .bytes))
 
 write-all-requires : tie.Need-write-all-requires

@@ -1,87 +1,76 @@
--- `sheet::sheet` meets its contract: a buffer without room gets nothing, a bad line its refusal, and the rows read what `print_rows` prints.
--- Assumes nothing.
+-- `sheet::sheet` meets its contract: what `print_text` printed aside is copied where it fits, and otherwise nothing is.
 use borrow.Author.Needs.{needs}
-use mathlib.Core.Path.{sym, _∙_}
-use Rattle.text.specs.Text.{roomFor, rowsRead, rowNumbers, rowPlaces}
-use Rattle.sheet.proofs.SheetLaws.{printed-as, no-room, bad-printed, read-printed}
+use native.Mathlib.Omega.{arith}
+use mathlib.Core.Path.{_≡_, sym, ap, _∙_}
+use lib.ListN.{length, take}
+use Rattle.sheet.proofs.SheetLaws.{fits-filled, card-unfit, refusal-unfit}
 use Rattle.sheet.proofs.sheet.Statement.{statement}
 use Rattle.sheet.proofs.sheet.Tie as tie
 
-returns : tie.Need-returns
-returns c = no-room _ _ (c .if1 .taken)
+slice-aggregate-print-text : tie.Need-slice-aggregate-print-text
+slice-aggregate-print-text c = search needs
 
-slice-aggregate-read-text : tie.Need-slice-aggregate-read-text
-slice-aggregate-read-text c = search needs
+print-text-requires : tie.Need-print-text-requires
+print-text-requires c κs = search needs
 
-slice-aggregate-read-text-2 : tie.Need-slice-aggregate-read-text-2
-slice-aggregate-read-text-2 c = search needs
+array-share-prefix-space : tie.Need-array-share-prefix-space
+array-share-prefix-space c = search needs
 
-read-text-requires : tie.Need-read-text-requires
-read-text-requires c κs = search needs
+-- from the test of the room back to what was printed aside
+abbrev aside : tie.After-given → tie.After-print-text
+aside c = c .before .before
 
-enum-known-read : tie.Need-enum-known-read
-enum-known-read c = search needs
+-- from the bytes that are to be copied to that test
+abbrev tested : tie.After-space3 → tie.After-given
+tested c = c .before .before .before
 
-print-refusal-requires : tie.Need-print-refusal-requires
-print-refusal-requires c κs = search needs
+slice-aggregate-put-bytes : tie.Need-slice-aggregate-put-bytes
+slice-aggregate-put-bytes c =
+    let p = aside (tested c) .print-text .ensures .printed in
+    p .count ∙ ap length (sym (p .bytes))
 
-enum-known-read-2 : tie.Need-enum-known-read-2
-enum-known-read-2 c = search needs
-
-slice-aggregate-print-rows : tie.Need-slice-aggregate-print-rows
-slice-aggregate-print-rows c = search needs
-
-slice-aggregate-print-rows-2 : tie.Need-slice-aggregate-print-rows-2
-slice-aggregate-print-rows-2 c = search needs
-
-print-rows-requires : tie.Need-print-rows-requires
-unfolding roomFor rowsRead rowNumbers rowPlaces
-print-rows-requires c κs =
-    let t = c .before .before .before .before .before .before .before .before .read-text .ensures in
-    record {
-      read = sym (t .answer) ∙ c .before .before .before .before .read2 .given .1;
-      list-room = c .before .before .before .before .before .before .before .before .read-text .kept .1 .0;
-      names-room = c .before .before .before .before .before .before .before .before .read-text .kept .1 .1 .0;
-      before-list = _;
-      before-names = _;
-      numbers = t .numbers;
-      places = t .places;
-      out-room = c .before .before .before .before .before .before .before .before .before .before .before .if1 .left;
-    }
+put-bytes-requires : tie.Need-put-bytes-requires
+put-bytes-requires c κs =
+    let p = aside (tested c) .print-text .ensures .printed in
+    omega (arith, p .count, ap length (p .bytes), c .before .before .if1 .taken)
 
 same-length : tie.Need-same-length
 same-length c = search needs
 
+returns : tie.Need-returns
+returns c =
+    let copied = c .before .before in
+    let at = tested (copied .before) in
+    fits-filled _ _ _ _ _ (aside at .print-text .ensures) _ _ (copied .before .before .before .if1 .taken) (copied .put-bytes .ensures)
+
+array-read-if2 : tie.Need-array-read-if2
+array-read-if2 c = search needs
+
+numbers-requires : tie.Need-numbers-requires
+numbers-requires c κs = search needs
+
 returns-2 : tie.Need-returns-2
 returns-2 c =
-    printed-as
-    (bad-printed _ _ _ (c .before .before .before .before .before .before .before .before .before .before .before .before .if1 .left) (sym (c .before .before .before .before .before .before .before .before .before .read-text .ensures .answer) ∙ c .before .before .before .before .before .read .given .1))
-    (c .before .before .print-refusal .ensures)
-
-same-length-2 : tie.Need-same-length-2
-same-length-2 c = search needs
+    let unfit = c .before .before in
+    card-unfit _ _ _ _ _ (aside (unfit .before) .print-text .ensures) _ (unfit .if1 .left) _ (c .before .if2 .taken) (c .numbers .ensures)
 
 returns-3 : tie.Need-returns-3
 returns-3 c =
-    printed-as
-    (read-printed _ _ _ (c .before .before .before .before .before .before .before .before .before .before .before .before .before .before .if1 .left) (sym (c .before .before .before .before .before .before .before .before .before .before .before .read-text .ensures .answer) ∙ c .before .before .before .before .before .before .before .read2 .given .1))
-    (c .before .before .print-rows .ensures)
+    let unfit = c .before in
+    refusal-unfit _ _ _ _ _ (aside (unfit .before) .print-text .ensures) _ (unfit .if1 .left) (c .if2 .left)
 
 pub sheet-spec : {M : Type 1} → statement M
 sheet-spec =
     tie.close
     (tie.spec
-    returns
-    slice-aggregate-read-text
-    slice-aggregate-read-text-2
-    read-text-requires
-    enum-known-read
-    print-refusal-requires
-    enum-known-read-2
-    slice-aggregate-print-rows
-    slice-aggregate-print-rows-2
-    print-rows-requires
+    slice-aggregate-print-text
+    print-text-requires
+    array-share-prefix-space
+    slice-aggregate-put-bytes
+    put-bytes-requires
     same-length
+    returns
+    array-read-if2
+    numbers-requires
     returns-2
-    same-length-2
     returns-3)

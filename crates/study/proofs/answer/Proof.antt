@@ -1,11 +1,12 @@
--- `study::answer` meets its contract: each return is the case that `answerOf` has for the two currents. Assumes nothing.
+-- `study::answer` meets its contract: each return is the case that `answerOf` has for the two currents.
 use Prim.Native.Nat.{ℕ}
-use mathlib.Core.Path.{_≡_, refl}
+use mathlib.Core.Path.{_≡_}
 use borrow.Author.Needs.{needs}
+use Rattle.answers.specs.declared.Answer.the-variants.{Done}
 use Rattle.single.specs.declared.Current.{Current}
 use Rattle.single.specs.declared.Current.the-variants.{Milliamperes, Refused}
 use Rattle.study.specs.declared.Converted.{Converted}
-use Rattle.study.specs.Currents.{refusedAt, answerOf}
+use Rattle.study.specs.Currents.{given, refusedAt, answerOf}
 use Rattle.study.proofs.answer.Statement.{statement}
 use Rattle.study.proofs.answer.Tie as tie
 
@@ -15,8 +16,7 @@ greatest-refused l e h = rw e h
 least-refused : {r : Converted} {g l : Current} {k : ℕ} → g ≡ Milliamperes k → l ≡ Refused → r ≡ refusedAt 2 → r ≡ answerOf g l
 least-refused e f h = rw (e, f) h
 
-both-given : {r : Converted} {g l : Current} {j k : ℕ} → g ≡ Milliamperes j → l ≡ Milliamperes k
-    → r ≡ record { number = 0; place = 0; greatest = j; least = k } → r ≡ answerOf g l
+both-given : {r : Converted} {g l : Current} {j k : ℕ} → g ≡ Milliamperes j → l ≡ Milliamperes k → r ≡ given Done j k → r ≡ answerOf g l
 both-given e f h = rw (e, f) h
 
 enum-known-greatest : tie.Need-enum-known-greatest
@@ -43,10 +43,15 @@ refused-requires-2 c κs = search needs
 returns-2 : tie.Need-returns-2
 returns-2 c = least-refused (c .before .before .before .before .greatest .given .1) (c .before .enum-told2 .given .1) (c .refused2 .ensures)
 
+given-requires : tie.Need-given-requires
+given-requires c κs = search needs
+
 returns-3 : tie.Need-returns-3
-returns-3 c = both-given (c .before .before .before .before .greatest .given .1) (c .before .least .given .1) refl
+returns-3 c =
+    let least-known = c .before .before in
+    both-given (least-known .before .before .before .greatest .given .1) (least-known .least .given .1) (c .given .ensures)
 
 pub answer-spec : {M : Type 1} → statement M
 answer-spec =
     tie.close
-    (tie.spec enum-known-greatest enum-told refused-requires returns enum-known-least enum-told-2 refused-requires-2 returns-2 returns-3)
+    (tie.spec enum-known-greatest enum-told refused-requires returns enum-known-least enum-told-2 refused-requires-2 returns-2 given-requires returns-3)

@@ -1,5 +1,4 @@
 -- `put_fields` meets its contract. The loop's invariant: the fields written and those left make up all. The measure is the number left.
--- Assumes nothing.
 use Prim.Native.Nat.{_-_}
 use native.Mathlib.Omega.{arith}
 use denote.Ref.{now}
@@ -9,15 +8,15 @@ use Rattle.print.proofs.write.put_fields.Statement.{statement}
 use Rattle.print.proofs.write.put_fields.Tie as tie
 
 abbrev Inv-loop : tie.InvT-loop
-Inv-loop out₀ at card from k₀ next₀ out k next = Partly 3 out₀ at card from out next k
+Inv-loop out₀ at values from count k₀ next₀ out k next = Partly count out₀ at values from out next k
 
 abbrev μ-loop : tie.MeasureT-loop
-μ-loop out₀ at card from k₀ next₀ out k next = 3 - k
+μ-loop out₀ at values from count k₀ next₀ out k next = count - k
 
 loop-holds : tie.Need-loop-holds Inv-loop μ-loop
 loop-holds c =
     let a = c .before .before .args in
-    partly-none 3 (now (a .out)) (a .at) (now (a .card)) (a .from)
+    partly-none (a .count) (now (a .out)) (a .at) (now (a .values)) (a .from)
 
 add-put-field : tie.Need-add-put-field Inv-loop μ-loop
 add-put-field c = search needs
@@ -44,7 +43,7 @@ loop-again : tie.Need-loop-again Inv-loop μ-loop
 loop-again c =
     let a = c .before .before .before .before .before .before .before .before .before .args in
     let l = c .before .before .before .before .before .before .loop in
-    partly-more 3 (now (a .out)) (a .at) (now (a .card)) (a .from) (l .out) (l .next) (l .k) (l .inv) _ _ (c .before .before .before .before .before .loop-test .taken) (c .before .before .before .before .before .before .before .before .before .pre .0) (c .before .before .put-field .ensures) (c .before .before .put-field .kept .0)
+    partly-more (a .count) (now (a .out)) (a .at) (now (a .values)) (a .from) (l .out) (l .next) (l .k) (l .inv) _ _ (c .before .before .before .before .before .loop-test .taken) (c .before .before .before .before .before .before .before .before .before .pre .0) (c .before .before .put-field .ensures) (c .before .before .put-field .kept .0)
 
 same-length : tie.Need-same-length Inv-loop μ-loop
 same-length c = c .before .loop .inv .long
@@ -53,7 +52,7 @@ returns : tie.Need-returns Inv-loop μ-loop
 returns c =
     let a = c .before .before .before .before .args in
     let l = c .before .loop in
-    partly-all 3 (now (a .out)) (a .at) (now (a .card)) (a .from) (l .out) (l .next) (l .k) (l .inv) (c .loop-test .left)
+    partly-all (a .count) (now (a .out)) (a .at) (now (a .values)) (a .from) (l .out) (l .next) (l .k) (l .inv) (c .loop-test .left)
 
 pub put-fields-spec : {M : Type 1} → statement M
 put-fields-spec =
