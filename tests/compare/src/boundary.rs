@@ -19,7 +19,17 @@ struct SurfpocketStudy {
     least: u64,
 }
 
+#[repr(C)]
+struct SurfpocketPrinted {
+    number: u64,
+    place: u64,
+    field: u64,
+    bytes: u64,
+}
+
 extern "C" {
+    fn surfpocket_version() -> u64;
+
     fn surfpocket_whole(
         list: *const u64,
         list_length: usize,
@@ -51,7 +61,7 @@ extern "C" {
         text_length: usize,
         out: *mut u8,
         out_length: usize,
-    ) -> usize;
+    ) -> SurfpocketPrinted;
 }
 
 /// An empty buffer goes over as NULL, as C callers have it.
@@ -120,12 +130,22 @@ pub fn study(greatest: Reading, least: Reading) -> StudyAnswer {
     }
 }
 
-/// The room that a print asks for.
+/// Room for every card and every refusal.
 pub const CARD_ROOM: usize = 22_810;
 
-/// How many bytes of `out` were written: a card or a refusal, or nothing for want of room.
-pub fn card(text: &[u8], out: &mut [u8]) -> usize {
+/// What the text gives, and how many bytes of `out` were written.
+pub fn card(text: &[u8], out: &mut [u8]) -> (Answer, u64) {
     let (t, o) = (pointer(text), pointer_mut(out));
     // SAFETY: as for `whole`.
-    unsafe { surfpocket_card(t, text.len(), o, out.len()) }
+    let given = unsafe { surfpocket_card(t, text.len(), o, out.len()) };
+    (Answer { number: given.number, place: given.place, field: given.field }, given.bytes)
+}
+
+/// The library's version, and the header's.
+pub fn versions() -> [u64; 2] {
+    const HEADER: &str = include_str!("../../../include/surfpocket.h");
+    let defined = HEADER.lines().find_map(|line| line.strip_prefix("#define SURFPOCKET_VERSION "));
+    let header = defined.and_then(|version| version.trim().parse().ok()).expect("a version");
+    // SAFETY: nothing goes over.
+    [unsafe { surfpocket_version() }, header]
 }

@@ -1,5 +1,5 @@
 //! Texts on each side of the bounds of section 6, with the number and place
-//! that the document gives each.
+//! that the document gives each, in ample room, in exact room and a byte short.
 
 use crate::boundary::CARD_ROOM;
 use crate::run::{Found, Item, Seen};
@@ -7,7 +7,7 @@ use crate::texts::{ample, same};
 use second::answer::*;
 use second::generate::{list_shaped, sized_text, text, Shape};
 use second::row::{FIELDS, MOST_ROWS};
-use second::text::{header, MOST_BYTES};
+use second::text::{card, header, MOST_BYTES};
 
 /// The list of section 6.
 const LIST: &[u8] = include_bytes!("../../../examples/lists/two-feeders.csv");
@@ -25,6 +25,9 @@ pub fn compare(_: u64, seed: u64, seen: &mut Seen) -> Found {
         if given != wanted {
             return Err(format!("{what}: {given:?}, not {wanted:?}"));
         }
+        let print = card(&text).len();
+        same(&text, print - 1, seen)?;
+        same(&text, print, seen)?;
     }
     Ok(())
 }
@@ -101,7 +104,7 @@ fn row_counts(seed: u64) -> Vec<Case> {
 }
 
 fn is_done(text: &[u8]) -> bool {
-    second::text::card(text).starts_with(b"name,")
+    card(text).starts_with(b"name,")
 }
 
 fn line_ends() -> Vec<Case> {

@@ -4,7 +4,7 @@
 
 use compare::run::{Score, Seen};
 use compare::singles::{self, Part};
-use compare::{changes, competing, lists, studies, texts};
+use compare::{boundary, changes, competing, lists, studies, texts};
 use std::process::ExitCode;
 use std::time::{Instant, SystemTime, UNIX_EPOCH};
 
@@ -60,6 +60,8 @@ fn compare_all(seed: u64, Length { passes, all_singles }: Length) -> ExitCode {
     println!("seed {seed}");
     let (mut score, mut whole) = (Score::default(), Seen::default());
     let (mut study, mut text, mut change) = (Seen::default(), Seen::default(), Seen::default());
+    let [library, header] = boundary::versions();
+    score.count(library == header, &format!("version {library}, the header's {header}"));
     score.run(&lists::KINDS, seed, passes, &mut whole);
     score.run(&[competing::LISTS], seed, passes, &mut whole);
     let share = 100 * whole.accepted / whole.compared.max(1);

@@ -6,24 +6,27 @@ use crate::lists::name_of;
 use crate::run::{Found, Group, Item, Kind, Seen};
 use second::answer::*;
 use second::generate::*;
-use second::text::{card, MOST_BYTES};
+use second::text::{card, printed, Printed, MOST_BYTES};
+use std::cmp::Ordering;
 
 /// A number and whether it names a place: TEXT does so or not, by what is wrong.
-/// ROOM cannot be given: the card lent for a text has room for 256 rows.
 pub const NUMBERS: Group = Group {
-    name: "numbers printed of texts",
+    name: "numbers given of texts",
     wanted: || {
         let rows = [FIELD, TREE, PICKUP, DELAY].map(|number| (number, 1));
-        [[(DONE, 0), (TEXT, 0), (TEXT, 1), (COUNT, 0)], rows].concat()
+        [&[(DONE, 0), (TEXT, 0), (TEXT, 1), (COUNT, 0), (ROOM, 0)], &rows[..]].concat()
     },
     label: |item| format!("{}{}", name_of(item.0), ["", " at a place"][item.1 as usize]),
 };
 
-/// Room for the print, as less than, exactly or more than it asks for.
+/// A card or a refusal, and whether its room is one byte short or less, exact, or more.
 pub const ROOMS: Group = Group {
     name: "rooms for the print",
-    wanted: || vec![(0, 0), (1, 0), (2, 0)],
-    label: |item| ["short", "exact", "more"][item.0 as usize].to_string(),
+    wanted: || (0..2).flat_map(|print| (0..4).map(move |room| (print, room))).collect(),
+    label: |item| {
+        let room = ["short", "a byte short", "exact", "more"][item.1 as usize];
+        format!("{} {room}", ["card", "refusal"][item.0 as usize])
+    },
 };
 
 /// TEXT at a line, or at none for its size, over the number given without what is wrong there.
@@ -51,42 +54,43 @@ pub const KINDS: [Kind; 9] = [
     Kind { name: "texts at fault twice", cases: 2_000, case: twice },
 ];
 
-/// Both programs on the same text, byte for byte; a guard on each side of the
-/// lent room, the text and the bytes past the print must stand. Number and
-/// place are those printed.
+/// Both programs on the same text: number, place, field and how many bytes, and
+/// these byte for byte; a guard on each side of the lent room, the text and the
+/// bytes past the print must stand.
 pub fn same(text: &[u8], room: usize, seen: &mut Seen) -> Result<Item, String> {
     const GUARD: usize = 16;
     let end = GUARD + room;
     let mark = (text.len() % 256) as u8;
     let before: Vec<u8> = (0..end + GUARD).map(|at| mark.wrapping_add(at as u8)).collect();
     let (lent, mut guarded) = (text.to_vec(), before.clone());
-    let printed = boundary::card(&lent, &mut guarded[GUARD..end]);
-    let expected = if room < CARD_ROOM { Vec::new() } else { card(text) };
-    let wanted = [&before[..GUARD], &expected, &before[GUARD + expected.len()..]].concat();
-    if printed != expected.len() || guarded != wanted || lent != text {
-        let given = String::from_utf8_lossy(guarded.get(GUARD..GUARD + printed).unwrap_or(&[]));
-        let (expected, text) = (String::from_utf8_lossy(&expected), String::from_utf8_lossy(text));
-        return Err(format!("{given:?}, not {expected:?}, or the buffers differ: {text:?}"));
+    let given = boundary::card(&lent, &mut guarded[GUARD..end]);
+    let print = printed(text);
+    note_room(&print, room, seen);
+    let Printed { answer, bytes } = print.within(room);
+    let wanted = [&before[..GUARD], &bytes, &before[GUARD + bytes.len()..]].concat();
+    if given != (answer, bytes.len() as u64) || guarded != wanted || lent != text {
+        let (bytes, text) = (String::from_utf8_lossy(&bytes), String::from_utf8_lossy(text));
+        return Err(format!(
+            "{given:?}, not {answer:?} and {bytes:?}, or the buffers differ: room {room}, {text:?}"
+        ));
     }
     seen.compared += 1;
-    seen.note(&ROOMS, (1 + u64::from(room > CARD_ROOM) - u64::from(room < CARD_ROOM), 0));
-    if room < CARD_ROOM {
-        return Ok((ROOM, 0));
-    }
-    let given = number_and_place(&expected);
-    seen.note(&NUMBERS, (given.0, given.1.min(1)));
-    seen.accepted += u64::from(given.0 == DONE);
-    Ok(given)
+    seen.note(&NUMBERS, (answer.number, answer.place.min(1)));
+    seen.accepted += u64::from(answer == Answer::DONE);
+    Ok((answer.number, answer.place))
 }
 
-fn number_and_place(printed: &[u8]) -> Item {
-    let Some(line) = printed.strip_prefix(b"refused,place,field\r\n") else { return (DONE, 0) };
-    let words = std::str::from_utf8(line).expect("digits").split(',');
-    let numbers: Vec<u64> = words.take(2).map(|word| word.parse().expect("a number")).collect();
-    (numbers[0], numbers[1])
+fn note_room(print: &Printed, room: usize, seen: &mut Seen) {
+    let kind = match room.cmp(&print.bytes.len()) {
+        Ordering::Less if room + 1 == print.bytes.len() => 1,
+        Ordering::Less => 0,
+        Ordering::Equal => 2,
+        Ordering::Greater => 3,
+    };
+    seen.note(&ROOMS, (u64::from(print.answer != Answer::DONE), kind));
 }
 
-/// With exactly the room it asks for, at times with more.
+/// With room for every print, at times with more.
 pub fn ample(text: &[u8], seed: u64, seen: &mut Seen) -> Found {
     same(text, CARD_ROOM + (seed % 3 * 50) as usize, seen).map(|_| ())
 }
@@ -148,10 +152,12 @@ fn twice(_: u64, seed: u64, seen: &mut Seen) -> Found {
     Ok(())
 }
 
-/// None, one short, exactly, one more, and any.
+/// None, about what is printed, about what suffices for any refusal and any card, and any.
 fn rooms(_: u64, seed: u64, seen: &mut Seen) -> Found {
     let text = short_text(12, seed);
-    let any = Rng::new(seed).below(2 * CARD_ROOM as u64) as usize;
-    let rooms = [0, 1, text.len(), CARD_ROOM - 1, CARD_ROOM, CARD_ROOM + 1, any];
-    rooms.into_iter().try_for_each(|room| same(&text, room, seen).map(|_| ()))
+    let (print, any) = (card(&text).len(), Rng::new(seed).below(2 * CARD_ROOM as u64) as usize);
+    let about = [print, 85, CARD_ROOM].map(|room| [room - 1, room, room + 1]);
+    let others = [0, 1, text.len(), any];
+    let mut rooms = others.into_iter().chain(about.into_iter().flatten());
+    rooms.try_for_each(|room| same(&text, room, seen).map(|_| ()))
 }

@@ -1,6 +1,6 @@
 //! The text of a list and of its card [01 §6].
 
-use crate::answer::{Answer, TEXT};
+use crate::answer::{Answer, ROOM, TEXT};
 use crate::row::{BOUNDS, CARD_BOUNDS, CARD_NUMBERS, FIELDS};
 use crate::whole::whole;
 
@@ -8,11 +8,35 @@ pub const MOST_BYTES: usize = 65_536;
 const MOST_DIGITS: usize = 9;
 const MOST_NAME: usize = 24;
 
+/// What a text gives, and what is printed of it.
+#[derive(Clone, Debug)]
+pub struct Printed {
+    pub answer: Answer,
+    pub bytes: Vec<u8>,
+}
+
+impl Printed {
+    /// What is given and printed in so many bytes of room: a card that does not
+    /// fit is ROOM, a refusal that does not fit is given and not printed.
+    pub fn within(self, room: usize) -> Printed {
+        if self.bytes.len() <= room {
+            return self;
+        }
+        let room = Answer::at(ROOM, 0);
+        let answer = if self.answer == Answer::DONE { room } else { self.answer };
+        Printed { answer, bytes: Vec::new() }
+    }
+}
+
 /// The bytes the program `card` prints for the bytes it reads.
 pub fn card(text: &[u8]) -> Vec<u8> {
+    printed(text).bytes
+}
+
+pub fn printed(text: &[u8]) -> Printed {
     match read(text).and_then(|(names, list)| print_card(&names, &list)) {
-        Ok(printed) => printed,
-        Err(refusal) => print_refusal(refusal),
+        Ok(bytes) => Printed { answer: Answer::DONE, bytes },
+        Err(refusal) => Printed { answer: refusal, bytes: print_refusal(refusal) },
     }
 }
 
