@@ -3,6 +3,9 @@ mod write;
 
 use answers::NUMBERS;
 use layout::COLUMNS;
+use write::DIGITS_MOST;
+use write::END;
+use write::FIELD_MOST;
 use write::put_block;
 use write::put_end;
 use write::put_fields;
@@ -20,12 +23,15 @@ ghost use Rattle.print.specs.Card.{lineText, rowsText, placeRight, print
 // A name has at most so many bytes.
 const NAME_MOST: u64 = 24;
 
-// The bytes of the card's header, of one line of the card and of a refusal, at most.
+// The bytes of the card's header, and of one line of the card at most.
 pub const HEADER: usize = 26;
 
-pub const LINE_MOST: usize = 24 + COLUMNS * 21 + 2;
+pub const LINE_MOST: usize = 24 + COLUMNS * FIELD_MOST + END;
 
-const REFUSAL_MOST: usize = 21 + 20 + (NUMBERS - 1) * 21 + 2;
+// The bytes of a refusal's header, and of a refusal at most.
+const REFUSAL_HEADER: usize = 21;
+
+const REFUSAL_MOST: usize = REFUSAL_HEADER + DIGITS_MOST + (NUMBERS - 1) * FIELD_MOST + END;
 
 // Name i has at most 24 bytes and stands inside the text.
 fn place_right(size: usize, names: &[u64], i: usize) -> bool

@@ -9,6 +9,13 @@ ghost use Rattle.layout.specs.Counts.{columnCount};
 ghost use Rattle.print.specs.Write.{Wrote, digitsMost, numberText};
 ghost use Rattle.print.specs.Card.{fieldMost, fieldsMost, fieldsText, lineText, lineEnd};
 
+// The bytes of a number and of a comma and a number, at most, and of a line's end.
+pub(crate) const DIGITS_MOST: usize = 20;
+
+pub(crate) const FIELD_MOST: usize = DIGITS_MOST + 1;
+
+pub(crate) const END: usize = 2;
+
 pub(crate) fn put_block(out: &mut [u8], at: usize, block: &[u8]) -> usize
     requires { ⌜ at + length (now block) ≤ length (now out) ⌝ }
     ensures { λ r. ⌜ Wrote (now (out .entry)) at (now (block .entry)) (now (out .exit)) r ⌝ }

@@ -108,15 +108,17 @@ module _ (s list names : List ℕ) (n room : ℕ) (r : RowsReady s list names n 
       sheet-is = rw (r .read) (sym (ap₂ (sheetWith (namesOf s)) card-is given-is))
 
       pub card-filled :
-          (out out′ : List ℕ) (bytes : ℕ) → room ≡ length out → length card ≡ cardMost → getD g 0 0 ≡ 0 → Printed out (cardPrinted s names card n room) out′ bytes →
+          (out out′ : List ℕ) (bytes : ℕ) → length card ≡ cardMost → getD g 0 0 ≡ 0 → Printed out (cardPrinted s names card n room)
+          out′ bytes →
           Filled (sheetOf s) out g bytes out′
       unfolding cardPrinted sheetWith
-      card-filled out out′ bytes same long e p =
+      card-filled out out′ bytes long e p =
           let q = rw (can-print card long, all-names) at p in
           rw (sheet-is, eq-eqb (getD g 0 0) 0 e) (record { numbers = refl; printed = q })
 
       pub refusal-filled :
-          (out out′ g′ : List ℕ) (bytes : ℕ) → (getD g 0 0 ≡ 0 → ⊥) → Filled (refusedWith g) out g′ bytes out′ → Filled (sheetOf s) out g′ bytes out′
+          (out out′ g′ : List ℕ) (bytes : ℕ) → (getD g 0 0 ≡ 0 → ⊥) → Filled (refusedWith g) out g′ bytes out′ → Filled
+          (sheetOf s) out g′ bytes out′
       unfolding sheetWith
       refusal-filled out out′ g′ bytes e f = rw (sheet-is, ne-eqb (getD g 0 0) 0 e) f
 

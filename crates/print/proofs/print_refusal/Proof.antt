@@ -4,6 +4,8 @@ use native.Mathlib.Omega.{arith}
 use lib.ListN.{drop, getD}
 use denote.Ref.{now}
 use borrow.Author.Needs.{needs}
+use Prim.Native.Nat.{_-_}
+use Rattle.answers.specs.Answer.{numberCount}
 use Rattle.print.proofs.DigitLaws.{number-few}
 use Rattle.print.proofs.FieldsLaws.{fields-short}
 use Rattle.print.proofs.PrintLaws.{refusal-none, refusal-all}
@@ -58,7 +60,7 @@ put-end-requires c κs =
     let h = roomy (headed first) .if1 .left in
     let numbers = roomy (headed first) .before .before .args .t1 in
     let n = number-few (getD numbers 0 0) in
-    let m = fields-short 2 (drop 1 numbers) in
+    let m = fields-short (numberCount - 1) (drop 1 numbers) in
     omega (
       arith,
       h,

@@ -1,7 +1,6 @@
 -- `sheet::print_rows` meets its contract: over 256 rows is COUNT; otherwise the numbers read are the list that is calculated, and the
 -- names' places lie inside the text.
 use borrow.Author.Needs.{needs}
-use mathlib.Core.Path.{refl}
 use Rattle.sheet.specs.Sheet.{blankCard}
 use Rattle.sheet.proofs.SheetLaws.{part-long, card-filled, refusal-filled, many-filled}
 use Rattle.sheet.proofs.print_rows.Statement.{statement}
@@ -57,7 +56,7 @@ returns-2 c =
     let worked = done .before .before in
     let few = worked .before .before .before in
     let start = few .before .before .before .before .before in
-    card-filled _ _ _ _ _ (start .pre) (few .if1 .left) _ _ (worked .whole-calculation .ensures) _ _ _ refl (worked .whole-calculation .kept .1 .0)
+    card-filled _ _ _ _ _ (start .pre) (few .if1 .left) _ _ (worked .whole-calculation .ensures) _ _ _ (worked .whole-calculation .kept .1 .0)
     (done .if2 .taken)
     (c .before .before .print-card .ensures)
 
