@@ -11,7 +11,7 @@ use Rattle.cursor.specs.declared.Cursor.{Cursor}
 use Rattle.cursor.specs.declared.NumberRead.the-variants.{Number, NoNumber}
 use Rattle.cursor.specs.Pieces.{moved, isNumber, numberAt, isComma, fieldAt}
 use Rattle.cursor.proofs.NumberLaws.{NumberWas, number-was, number-was-none}
-use Rattle.alphabet.proofs.RunLaws.{first-left}
+use Rattle.cursor.proofs.RunLaws.{first-left}
 
 -- a comma comes next at the place i
 pub comma-there : (s : List ℕ) (i : ℕ) → getD s i 0 ≡ 44 → isComma (drop i s) ≡ true

@@ -1,5 +1,7 @@
+pub mod ByteLaws
 pub mod DecimalLaws
 pub mod FieldLaws
 pub mod NameLaws
 pub mod NumberLaws
 pub mod QuoteLaws
+pub mod RunLaws

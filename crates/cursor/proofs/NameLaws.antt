@@ -12,12 +12,12 @@ use lib.Seq.{drop-drop, take-all, take-nil}
 use borrow.Author.Tests.{eq-eqb, ne-eqb}
 use Rattle.grid.specs.declared.Found.{Found}
 use Rattle.grid.specs.declared.Found.the-variants.{At, Nothing}
-use Rattle.alphabet.specs.declared.Class.the-variants.{Bare}
+use Rattle.cursor.specs.declared.Class.the-variants.{Bare}
 use Rattle.cursor.specs.declared.Cursor.{Cursor}
 use Rattle.cursor.specs.declared.NameRead.the-variants.{Name, NoName}
-use Rattle.alphabet.specs.Bytes.{plainByte, passes, run}
+use Rattle.cursor.specs.Bytes.{plainByte, passes, run}
 use Rattle.cursor.specs.Pieces.{moved, plainPart, quotePart, nameMost, bareEnd, nameEnd, isFound, placeFound, isName, nameLength, nameAt, nameTo}
-use Rattle.alphabet.proofs.RunLaws.{first-left}
+use Rattle.cursor.proofs.RunLaws.{first-left}
 
 module _ (w : List ℕ) (i : ℕ) where
   pub name-over : length w ≤ i → nameEnd i (drop i w) ≡ Nothing

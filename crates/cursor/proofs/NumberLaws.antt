@@ -10,13 +10,13 @@ use lib.ListN.{length, take, drop, getD, length-drop}
 use lib.Seq.{drop-drop, getD-drop}
 use borrow.Author.Tests.{le-leb, lt-leb, eq-eqb, ne-eqb, leb-true}
 use Rattle.grid.proofs.BoolLaws.{and-left, and-right}
-use Rattle.alphabet.specs.declared.Class.the-variants.{Digit}
+use Rattle.cursor.specs.declared.Class.the-variants.{Digit}
 use Rattle.cursor.specs.declared.Cursor.{Cursor}
 use Rattle.cursor.specs.declared.NumberRead.the-variants.{Number, NoNumber}
-use Rattle.alphabet.specs.Bytes.{digitByte, passes}
+use Rattle.cursor.specs.Bytes.{digitByte, passes}
 use Rattle.cursor.specs.Digits.{Digits}
 use Rattle.cursor.specs.Pieces.{moved, digits, isNumber, decimal, numberOf, numberAt}
-use Rattle.alphabet.proofs.RunLaws.{first-left, run-length, run-at}
+use Rattle.cursor.proofs.RunLaws.{first-left, run-length, run-at}
 
 pub number-bad : (c : Cursor) (l : List ℕ) → isNumber l ≡ false → NoNumber ≡ numberAt c l
 unfolding numberAt

@@ -6,13 +6,13 @@ use lib.Dec.{leb, eqb}
 use lib.ListN.{getD, take, drop}
 use Rattle.grid.specs.declared.Found.{Found}
 use Rattle.grid.specs.declared.Found.the-variants.{At, Nothing}
-use Rattle.alphabet.specs.declared.Class.the-variants.{Digit, Bare}
+use Rattle.cursor.specs.declared.Class.the-variants.{Digit, Bare}
 use Rattle.cursor.specs.declared.Cursor.{Cursor}
 use Rattle.cursor.specs.declared.NumberRead.{NumberRead}
 use Rattle.cursor.specs.declared.NumberRead.the-variants.{Number, NoNumber}
 use Rattle.cursor.specs.declared.NameRead.{NameRead}
 use Rattle.cursor.specs.declared.NameRead.the-variants.{Name, NoName}
-use Rattle.alphabet.specs.Bytes.{plainByte, passes, run}
+use Rattle.cursor.specs.Bytes.{plainByte, passes, run}
 
 -- the cursor n bytes on, in the same line
 abbrev pub moved : Cursor → ℕ → Cursor

@@ -2,13 +2,13 @@
 use super::Cursor;
 use super::NameRead;
 use super::NumberRead;
-use alphabet::Class;
-use alphabet::passes_at;
-use alphabet::plain_byte;
+use super::Class;
+use super::alphabet::passes_at;
+use super::alphabet::plain_byte;
 ghost use mathlib.Core.Path.{_≡_};
 ghost use Prim.Native.Nat.{_-_, _<_};
 ghost use lib.ListN.{drop, take};
-ghost use Rattle.alphabet.specs.Bytes.{passes, run};
+ghost use Rattle.cursor.specs.Bytes.{passes, run};
 ghost use Rattle.cursor.specs.Digits.{Digits};
 ghost use Rattle.cursor.specs.Pieces.{moved, nextLine, decimal, numberAt, nameAt, nameTo, nameEnd, plainPart, quotePart};
 

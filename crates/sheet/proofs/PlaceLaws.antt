@@ -12,10 +12,10 @@ use lib.ListN.{length, getD, take, drop, length-append, length-drop, drop-of-len
 use lib.Seq.{drop-drop, length-take-le, take-take}
 use borrow.Author.Tests.{eqb-true, ltb-true, ltb-false}
 use Rattle.grid.proofs.BoolLaws.{and-left, and-right, passes-or-fails}
-use Rattle.alphabet.specs.declared.Class.the-variants.{InLine}
-use Rattle.alphabet.specs.Bytes.{passes, run}
+use Rattle.cursor.specs.declared.Class.the-variants.{InLine}
+use Rattle.cursor.specs.Bytes.{passes, run}
 use Rattle.cursor.specs.Pieces.{digits, isNumber, isName, nameLength, isComma}
-use Rattle.alphabet.proofs.RunLaws.{run-length}
+use Rattle.cursor.proofs.RunLaws.{run-length}
 use Rattle.line.specs.Line.{isNamed, isLine, numbersOf, nameStart, nameSize, areFields, afterName, moreFields}
 use Rattle.line.proofs.RowLaws.{numbers-long}
 use Rattle.text.specs.declared.Reading.the-variants.{BadLine, Rows}

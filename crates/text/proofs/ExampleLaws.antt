@@ -2,7 +2,7 @@
 use mathlib.Core.Path.{_≡_, refl}
 use mathlib.Core.List.{List, [], _∷_, _++_}
 use Prim.Native.Nat.{ℕ}
-use Rattle.alphabet.specs.Bytes.{digitByte, plainByte, bareByte, crlf, passes, run}
+use Rattle.cursor.specs.Bytes.{digitByte, plainByte, bareByte, crlf, passes, run}
 use Rattle.cursor.specs.Pieces.{digits, isNumber, plainPart, bareEnd, nameEnd, isFound, placeFound, isName, nameLength, isComma}
 use Rattle.line.specs.Line.{isEnd, afterField, afterName, areFields, fieldsOf, isNamed, isLine, nameStart, nameSize}
 use Rattle.text.specs.declared.Reading.the-variants.{Rows, BadLine}

@@ -9,7 +9,7 @@ use lib.ListN.{length, take, drop, take-append-drop}
 use lib.Seq.{drop-append-seam, take-append-seam, drop-drop}
 use borrow.Author.Tests.{eqb-true}
 use Rattle.grid.proofs.BoolLaws.{and-left, and-right}
-use Rattle.alphabet.specs.Bytes.{digitByte, passes, run}
+use Rattle.cursor.specs.Bytes.{digitByte, passes, run}
 use Rattle.cursor.specs.Pieces.{digits, isNumber, numberOf, isName, nameLength, isComma}
 use Rattle.line.specs.Line.{moreFields, isEnd, afterField, afterName, areFields, fieldsOf, isNamed, isLine, numbersOf, nameStart, nameSize}
 use Rattle.text.specs.Grammar.{Fields, Row, Line, line, rowOf}

@@ -13,10 +13,10 @@ use borrow.Author.Tests.{ne-eqb, eqb-true, eqb-false}
 use Rattle.grid.specs.declared.Found.{Found}
 use Rattle.grid.specs.declared.Found.the-variants.{At, Nothing}
 use Rattle.grid.proofs.BoolLaws.{passes-or-fails}
-use Rattle.alphabet.specs.declared.Class.the-variants.{Bare}
-use Rattle.alphabet.specs.Bytes.{bareByte, passes, run}
+use Rattle.cursor.specs.declared.Class.the-variants.{Bare}
+use Rattle.cursor.specs.Bytes.{bareByte, passes, run}
 use Rattle.cursor.specs.Pieces.{plainPart, nameMost, bareEnd, nameEnd, isFound, placeFound, isName, nameLength}
-use Rattle.alphabet.proofs.RunLaws.{run-length}
+use Rattle.cursor.proofs.RunLaws.{run-length}
 use Rattle.text.specs.Grammar.{All, Form, bare, quoted, IsNameText}
 use Rattle.text.proofs.GrammarRuns.{run-all, run-append}
 use Rattle.text.proofs.GrammarQuotes.{impossible, same-place, plain-no-quote, bare-plain, Closed, parts-sound, body-complete}

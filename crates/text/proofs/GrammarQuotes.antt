@@ -11,7 +11,7 @@ use lib.ListN.{length, getD}
 use borrow.Author.Tests.{ne-eqb, eqb-true, eqb-false, not-true}
 use Rattle.grid.specs.declared.Found.the-variants.{At, Nothing}
 use Rattle.grid.proofs.BoolLaws.{and-right, passes-or-fails}
-use Rattle.alphabet.specs.Bytes.{plainByte, bareByte}
+use Rattle.cursor.specs.Bytes.{plainByte, bareByte}
 use Rattle.cursor.specs.Pieces.{plainPart, quotePart}
 use Rattle.text.specs.Grammar.{Body, empty, plain, doubled}
 

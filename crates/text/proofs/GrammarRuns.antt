@@ -5,7 +5,7 @@ use mathlib.Core.List.{List, [], _∷_, _++_}
 use Prim.Native.Nat.{ℕ, suc, _+_}
 use native.Mathlib.Nat.{suc-add, zero-add}
 use lib.ListN.{length, take}
-use Rattle.alphabet.specs.Bytes.{run}
+use Rattle.cursor.specs.Bytes.{run}
 use Rattle.text.specs.Grammar.{All}
 
 module _ (f : ℕ → Bool) (ok : List ℕ → Bool) where

@@ -10,9 +10,9 @@ use lib.ListN.{length, take, drop, length-drop, take-append-drop, drop-of-length
 use lib.Seq.{drop-drop, take-all}
 use borrow.Author.Tests.{eqb-true, not-false}
 use Rattle.grid.proofs.BoolLaws.{and-left, and-right, passes-or-fails, lt-or-le}
-use Rattle.alphabet.specs.declared.Class.the-variants.{InLine}
-use Rattle.alphabet.specs.Bytes.{crlf, passes, run}
-use Rattle.alphabet.proofs.RunLaws.{run-end}
+use Rattle.cursor.specs.declared.Class.the-variants.{InLine}
+use Rattle.cursor.specs.Bytes.{crlf, passes, run}
+use Rattle.cursor.proofs.RunLaws.{run-end}
 use Rattle.line.specs.Line.{isLine}
 use Rattle.text.specs.Text.{lines, lineLength, afterLine, goodLines}
 use Rattle.text.specs.Grammar.{Line, Lines, rowOf}

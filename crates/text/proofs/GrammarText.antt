@@ -10,8 +10,8 @@ use lib.ListN.{length, take, drop, length-append, drop-of-length-le}
 use lib.Seq.{drop-append-add, take-append-seam, take-length}
 use borrow.Author.Tests.{leb-true, ne-eqb, not-true}
 use Rattle.grid.proofs.BoolLaws.{and-left, and-right}
-use Rattle.alphabet.specs.declared.Class.the-variants.{InLine}
-use Rattle.alphabet.specs.Bytes.{digitByte, plainByte, bareByte, crlf, passes, run}
+use Rattle.cursor.specs.declared.Class.the-variants.{InLine}
+use Rattle.cursor.specs.Bytes.{digitByte, plainByte, bareByte, crlf, passes, run}
 use Rattle.text.specs.Text.{lines, lineLength, afterLine, goodLines}
 use Rattle.text.specs.Grammar.{All, IsNumber, Body, empty, plain, doubled, Form, bare, quoted, Fields, Row, Line, line, Lines, rowOf}
 use Rattle.text.proofs.GrammarRuns.{run-append, all-append, all-weaker}

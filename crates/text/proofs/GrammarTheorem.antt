@@ -12,8 +12,8 @@ use lib.ListN.{length, take, drop, getD, drop-of-length-le, length-map}
 use lib.Seq.{getD-drop, drop-append-add, take-append-seam, take-length}
 use borrow.Author.Tests.{eqb-true, eq-eqb, eqb-false}
 use Rattle.grid.proofs.BoolLaws.{passes-or-fails, not-both}
-use Rattle.alphabet.specs.Bytes.{run}
-use Rattle.alphabet.proofs.RunLaws.{run-length, run-end, run-at}
+use Rattle.cursor.specs.Bytes.{run}
+use Rattle.cursor.proofs.RunLaws.{run-length, run-end, run-at}
 use Rattle.line.specs.Line.{isLine}
 use Rattle.text.specs.declared.Reading.the-variants.{BadLine, Rows}
 use Rattle.text.specs.Header.{header}

@@ -6,8 +6,8 @@ use Prim.Native.Nat.{ℕ, suc, _+_}
 use native.Mathlib.Omega.{arith}
 use lib.Dec.{eqb}
 use lib.ListN.{take, drop}
-use Rattle.alphabet.specs.declared.Class.the-variants.{InLine}
-use Rattle.alphabet.specs.Bytes.{crlf, passes, run}
+use Rattle.cursor.specs.declared.Class.the-variants.{InLine}
+use Rattle.cursor.specs.Bytes.{crlf, passes, run}
 use Rattle.text.specs.Text.{onto, lines, lineLength, afterLine}
 
 no-crlf : (b : ℕ) → crlf (b ∷ []) ≡ false

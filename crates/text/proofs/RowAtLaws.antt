@@ -7,12 +7,12 @@ use native.Mathlib.Omega.{arith}
 use lib.ListN.{length, take, drop, getD, length-drop}
 use lib.Seq.{drop-drop, drop-cons, length-take-le}
 use Rattle.grid.proofs.BoolLaws.{not-both, fails}
-use Rattle.alphabet.specs.declared.Class.the-variants.{InLine}
+use Rattle.cursor.specs.declared.Class.the-variants.{InLine}
 use Rattle.cursor.specs.declared.Cursor.{Cursor}
-use Rattle.alphabet.specs.Bytes.{passes, run}
+use Rattle.cursor.specs.Bytes.{passes, run}
 use Rattle.cursor.specs.Pieces.{moved}
 use Rattle.cursor.proofs.NameLaws.{window-long}
-use Rattle.alphabet.proofs.RunLaws.{run-length}
+use Rattle.cursor.proofs.RunLaws.{run-length}
 use Rattle.line.specs.declared.RowRead.{RowRead}
 use Rattle.line.specs.Line.{fieldCount, isLine, numbersOf, nameStart, nameSize, noRow, lineRow}
 use Rattle.text.specs.Text.{lines, lineLength, afterLine, goodLines, nextIsLine, roomFor}

@@ -8,7 +8,7 @@ use native.Mathlib.Omega.{arith}
 use lib.ListN.{length, take, drop, length-append, length-drop, drop-of-length-le}
 use borrow.Author.Tests.{eq-eqb, ne-eqb}
 use Rattle.cursor.specs.declared.Cursor.{Cursor}
-use Rattle.alphabet.specs.Bytes.{run}
+use Rattle.cursor.specs.Bytes.{run}
 use Rattle.cursor.specs.Pieces.{nextLine, moved}
 use Rattle.line.specs.declared.RowRead.{RowRead}
 use Rattle.line.specs.Line.{fieldCount, isLine, numbersOf, nameStart, nameSize, lineRow}

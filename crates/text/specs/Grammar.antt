@@ -6,7 +6,7 @@ use mathlib.Core.Logic.{_⊎_}
 use mathlib.Core.List.{List, [], _∷_, _++_, map}
 use Prim.Native.Nat.{ℕ, zero, suc, _≤_}
 use lib.ListN.{length, getD, take, drop}
-use Rattle.alphabet.specs.Bytes.{digitByte, plainByte, bareByte}
+use Rattle.cursor.specs.Bytes.{digitByte, plainByte, bareByte}
 use Rattle.cursor.specs.Pieces.{decimal, nameMost}
 use Rattle.line.specs.Line.{moreFields, numbersOf, nameStart, nameSize}
 use Rattle.text.specs.Header.{header}

@@ -1,5 +1,5 @@
 // Reading the text of a list [01 §6].
-use alphabet::Class;
+use cursor::Class;
 use check::same;
 use copy::put;
 use cursor::Cursor;

@@ -1,15 +1,9 @@
 // The bytes that numbers, names and lines are made of [01 §6].
+use super::Class;
 ghost use mathlib.Core.Path.{_≡_};
 ghost use Prim.Native.Nat.{_<_};
 ghost use lib.ListN.{length, drop};
-ghost use Rattle.alphabet.specs.Bytes.{digitByte, plainByte, bareByte, crlf, passes};
-
-// The bytes that a run is made of.
-pub enum Class {
-    Digit,
-    Bare,
-    InLine,
-}
+ghost use Rattle.cursor.specs.Bytes.{digitByte, plainByte, bareByte, crlf, passes};
 
 fn digit_byte(b: u8) -> bool
     ensures { λ r. ⌜ r ≡ digitByte b ⌝ }

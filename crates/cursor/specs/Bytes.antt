@@ -4,8 +4,8 @@ use mathlib.Core.List.{List, [], _∷_}
 use Prim.Native.Nat.{ℕ, suc}
 use lib.Dec.{leb, eqb}
 use lib.ListN.{getD}
-use Rattle.alphabet.specs.declared.Class.{Class}
-use Rattle.alphabet.specs.declared.Class.the-variants.{Digit, Bare, InLine}
+use Rattle.cursor.specs.declared.Class.{Class}
+use Rattle.cursor.specs.declared.Class.the-variants.{Digit, Bare, InLine}
 
 -- 0 to 9
 unfoldable pub digitByte : ℕ → Bool

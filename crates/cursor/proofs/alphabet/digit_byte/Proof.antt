@@ -1,9 +1,9 @@
 -- `digit_byte` meets its contract: at each return the tests that led there decide `digitByte`.
 -- Assumes nothing.
 use borrow.Author.Tests.{lt-leb, le-leb}
-use Rattle.alphabet.specs.Bytes.{digitByte}
-use Rattle.alphabet.proofs.digit_byte.Statement.{statement}
-use Rattle.alphabet.proofs.digit_byte.Tie as tie
+use Rattle.cursor.specs.Bytes.{digitByte}
+use Rattle.cursor.proofs.alphabet.digit_byte.Statement.{statement}
+use Rattle.cursor.proofs.alphabet.digit_byte.Tie as tie
 
 returns : tie.Need-returns
 unfolding digitByte

@@ -2,9 +2,9 @@
 -- Assumes nothing.
 use denote.Ref.{now}
 use borrow.Author.Needs.{needs}
-use Rattle.alphabet.proofs.ByteLaws.{passes-digit, passes-bare, passes-in-line}
-use Rattle.alphabet.proofs.passes_at.Statement.{statement}
-use Rattle.alphabet.proofs.passes_at.Tie as tie
+use Rattle.cursor.proofs.ByteLaws.{passes-digit, passes-bare, passes-in-line}
+use Rattle.cursor.proofs.alphabet.passes_at.Statement.{statement}
+use Rattle.cursor.proofs.alphabet.passes_at.Tie as tie
 
 enum-told : tie.Need-enum-told
 enum-told c = search needs

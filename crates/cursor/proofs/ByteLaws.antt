@@ -6,10 +6,10 @@ use Prim.Native.Nat.{ℕ, _+_, _≤_}
 use lib.Dec.{eqb}
 use lib.ListN.{length, drop, getD, List·getD-eq-default}
 use borrow.Author.Tests.{eq-eqb, ne-eqb}
-use Rattle.alphabet.specs.declared.Class.{Class}
-use Rattle.alphabet.specs.declared.Class.the-variants.{Digit, Bare, InLine}
-use Rattle.alphabet.specs.Bytes.{digitByte, bareByte, crlf, passes}
-use Rattle.alphabet.proofs.RunLaws.{first-left, second-left}
+use Rattle.cursor.specs.declared.Class.{Class}
+use Rattle.cursor.specs.declared.Class.the-variants.{Digit, Bare, InLine}
+use Rattle.cursor.specs.Bytes.{digitByte, bareByte, crlf, passes}
+use Rattle.cursor.proofs.RunLaws.{first-left, second-left}
 
 module _ (s : List ℕ) (i : ℕ) where
   pub crlf-no-cr : (getD s i 0 ≡ 13 → ⊥) → false ≡ crlf (drop i s)

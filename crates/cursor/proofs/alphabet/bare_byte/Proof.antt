@@ -2,9 +2,9 @@
 -- Assumes nothing.
 use borrow.Author.Tests.{eq-eqb, ne-eqb}
 use borrow.Author.Needs.{needs}
-use Rattle.alphabet.specs.Bytes.{bareByte}
-use Rattle.alphabet.proofs.bare_byte.Statement.{statement}
-use Rattle.alphabet.proofs.bare_byte.Tie as tie
+use Rattle.cursor.specs.Bytes.{bareByte}
+use Rattle.cursor.proofs.alphabet.bare_byte.Statement.{statement}
+use Rattle.cursor.proofs.alphabet.bare_byte.Tie as tie
 
 returns : tie.Need-returns
 unfolding bareByte

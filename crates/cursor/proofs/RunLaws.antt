@@ -8,7 +8,7 @@ use native.Mathlib.Numerals.{add-one}
 use native.Mathlib.Omega.{arith}
 use lib.ListN.{length, drop, getD, drop-of-length-le}
 use lib.Seq.{drop-cons, getD-drop}
-use Rattle.alphabet.specs.Bytes.{run}
+use Rattle.cursor.specs.Bytes.{run}
 
 -- the first byte of what is left at i
 pub first-left : (s : List ℕ) (i : ℕ) → getD (drop i s) 0 0 ≡ getD s i 0

@@ -1,9 +1,9 @@
 -- `plain_byte` meets its contract: at each return the tests that led there decide `plainByte`.
 -- Assumes nothing.
 use borrow.Author.Tests.{lt-leb, le-leb}
-use Rattle.alphabet.specs.Bytes.{plainByte}
-use Rattle.alphabet.proofs.plain_byte.Statement.{statement}
-use Rattle.alphabet.proofs.plain_byte.Tie as tie
+use Rattle.cursor.specs.Bytes.{plainByte}
+use Rattle.cursor.proofs.alphabet.plain_byte.Statement.{statement}
+use Rattle.cursor.proofs.alphabet.plain_byte.Tie as tie
 
 returns : tie.Need-returns
 unfolding plainByte
