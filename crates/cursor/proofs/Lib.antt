@@ -1,4 +1,5 @@
 pub mod ByteLaws
+pub mod CellLaws
 pub mod DecimalLaws
 pub mod FieldLaws
 pub mod NameLaws

@@ -14,7 +14,7 @@ fn digit_byte(b: u8) -> bool
     b <= 57
 }
 
-pub fn plain_byte(b: u8) -> bool
+pub(crate) fn plain_byte(b: u8) -> bool
     ensures { λ r. ⌜ r ≡ plainByte b ⌝ }
 {
     if b < 32 {
@@ -49,7 +49,7 @@ fn crlf_at(s: &[u8], i: usize) -> bool
     s[next] == 10
 }
 
-pub fn passes_at(class: Class, s: &[u8], i: usize) -> bool
+pub(crate) fn passes_at(class: Class, s: &[u8], i: usize) -> bool
     requires { ⌜ i < length (now s) ⌝ }
     ensures { λ r. ⌜ r ≡ passes class (drop i (now (s .entry))) ⌝ }
 {

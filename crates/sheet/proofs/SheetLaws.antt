@@ -14,10 +14,11 @@ use Rattle.answers.specs.declared.Answer.the-variants.{Count}
 use Rattle.answers.specs.declared.Given.{Given}
 use Rattle.answers.specs.Answer.{givenBy}
 use Rattle.rows.proofs.TestLaws.{size-over}
-use Rattle.line.specs.Line.{fieldCount}
+use Rattle.list.specs.List.{fieldCount}
 use Rattle.text.specs.declared.Reading.the-variants.{BadLine, Rows}
 use Rattle.text.specs.Names.{nameAtPlace, namesAt}
-use Rattle.text.specs.Text.{reading, readingNumber, readingPlace, rowNumbers, rowPlaces, over, blocksOver}
+use Rattle.list.specs.List.{reading, readingNumber, readingPlace, rowNumbers, rowPlaces}
+use Rattle.text.specs.Text.{over, blocksOver}
 use Rattle.print.specs.Card.{cardText, placeRight, printable, cardPrinted, refusalPrinted, Printed}
 use Rattle.print.proofs.PrintLaws.{nothing-printed}
 use Rattle.whole.specs.Ready.{Gave}
@@ -25,7 +26,8 @@ use Rattle.whole.specs.Whole.{whole}
 use Rattle.whole.proofs.AnswerLaws.{answered-size}
 use Rattle.sheet.specs.Ready.{RowsReady}
 use Rattle.sheet.specs.Sheet.{namesOf, blankCard, givenText, readText, sheetText, sheetMost, sheetPrinted}
-use Rattle.sheet.proofs.PlaceLaws.{PlaceInside, RowsStand, rows-stand}
+use Rattle.text.proofs.PlaceLaws.{PlaceInside}
+use Rattle.list.proofs.PlaceLaws.{RowsStand, rows-stand}
 
 -- bytes that are printed are printed by whatever name they have
 pub printed-as : {out out′ xs ys : List ℕ} {r : ℕ} → xs ≡ ys → Printed out xs out′ r → Printed out ys out′ r

@@ -1,7 +1,7 @@
 -- [01 §6] From the text of a list to the printed card or refusal. TEXT comes before all other refusals, its size test first.
 -- Definitions only.
 use mathlib.Core.Bool.{cond}
-use mathlib.Core.List.{List, [], map}
+use mathlib.Core.List.{List, []}
 use Prim.Native.Nat.{ℕ}
 use lib.Dec.{leb, eqb}
 use lib.ListN.{replicate}
@@ -9,14 +9,14 @@ use Rattle.answers.specs.declared.Given.{Given}
 use Rattle.answers.specs.Answer.{givenBy}
 use Rattle.text.specs.declared.Reading.{Reading}
 use Rattle.text.specs.declared.Reading.the-variants.{BadLine, Rows}
-use Rattle.text.specs.Grammar.{Row, rowsOf}
-use Rattle.text.specs.Text.{reading, readingNumber, readingPlace, rowNumbers}
+use Rattle.text.specs.Grammar.{allNames}
+use Rattle.list.specs.List.{reading, readingNumber, readingPlace, rowNumbers, rowsOf}
 use Rattle.print.specs.Card.{cardText, refusalText}
 use Rattle.whole.specs.Whole.{whole}
 
 -- the names of a text's rows, as they stand in it
 unfoldable pub namesOf : List ℕ → List (List ℕ)
-namesOf s = map (λ (r : Row). r .name) (rowsOf s)
+namesOf s = allNames (rowsOf s)
 
 -- room for the card of 256 rows
 unfoldable pub blankCard : List ℕ

@@ -1,8 +1,8 @@
 // From the text of a list to the printed card or refusal [01 §6].
+use list::read_list;
 use print::print_card;
 use print::print_refusal;
 use text::Reading;
-use text::read_text;
 use whole::whole;
 ghost use mathlib.Core.Path.{_≡_};
 ghost use Prim.Native.Nat.{_≤_};
@@ -48,7 +48,7 @@ pub fn sheet(text: &[u8], out: &mut [u8]) -> usize
     }
     let mut list = [0u64; LIST];
     let mut names = [0u64; NAMES];
-    let read = read_text(text, &mut list, &mut names);
+    let read = read_list(text, &mut list, &mut names);
     match read {
         Reading::BadLine(line) => print_refusal(1, line, 0, out),
         Reading::Rows(n) => print_rows(text, &list, &names, n, out),

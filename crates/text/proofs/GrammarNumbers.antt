@@ -1,4 +1,4 @@
--- A number comes next exactly where the bytes that come next are a number, and its value is theirs. Assumes nothing.
+-- A number comes next exactly where the bytes that come next are a number, and its value is theirs.
 use mathlib.Core.Path.{_≡_, refl, sym, _∙_}
 use mathlib.Core.Bool.{Bool, true, false, not, _&&_, _||_, or-true}
 use mathlib.Core.Logic.{_⊎_, inl, inr, ⊎-elim}

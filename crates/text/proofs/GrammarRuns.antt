@@ -1,4 +1,4 @@
--- A run of bytes that pass a test, cut off and put in front of others. Assumes nothing.
+-- A run of bytes that pass a test, cut off and put in front of others.
 use mathlib.Core.Path.{_≡_, refl, sym}
 use mathlib.Core.Bool.{Bool, true, false, cond}
 use mathlib.Core.List.{List, [], _∷_, _++_}

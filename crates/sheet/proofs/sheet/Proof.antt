@@ -2,7 +2,6 @@
 -- Assumes nothing.
 use borrow.Author.Needs.{needs}
 use mathlib.Core.Path.{sym, _∙_}
-use Rattle.text.specs.Text.{roomFor, rowsRead, rowNumbers, rowPlaces}
 use Rattle.sheet.proofs.SheetLaws.{printed-as, no-room, bad-printed, read-printed}
 use Rattle.sheet.proofs.sheet.Statement.{statement}
 use Rattle.sheet.proofs.sheet.Tie as tie
@@ -10,14 +9,14 @@ use Rattle.sheet.proofs.sheet.Tie as tie
 returns : tie.Need-returns
 returns c = no-room _ _ (c .if1 .taken)
 
-slice-aggregate-read-text : tie.Need-slice-aggregate-read-text
-slice-aggregate-read-text c = search needs
+slice-aggregate-read-list : tie.Need-slice-aggregate-read-list
+slice-aggregate-read-list c = search needs
 
-slice-aggregate-read-text-2 : tie.Need-slice-aggregate-read-text-2
-slice-aggregate-read-text-2 c = search needs
+slice-aggregate-read-list-2 : tie.Need-slice-aggregate-read-list-2
+slice-aggregate-read-list-2 c = search needs
 
-read-text-requires : tie.Need-read-text-requires
-read-text-requires c κs = search needs
+read-list-requires : tie.Need-read-list-requires
+read-list-requires c κs = search needs
 
 enum-known-read : tie.Need-enum-known-read
 enum-known-read c = search needs
@@ -35,13 +34,12 @@ slice-aggregate-print-rows-2 : tie.Need-slice-aggregate-print-rows-2
 slice-aggregate-print-rows-2 c = search needs
 
 print-rows-requires : tie.Need-print-rows-requires
-unfolding roomFor rowsRead rowNumbers rowPlaces
 print-rows-requires c κs =
-    let t = c .before .before .before .before .before .before .before .before .read-text .ensures in
+    let t = c .before .before .before .before .before .before .before .before .read-list .ensures in
     record {
       read = sym (t .answer) ∙ c .before .before .before .before .read2 .given .1;
-      list-room = c .before .before .before .before .before .before .before .before .read-text .kept .1 .0;
-      names-room = c .before .before .before .before .before .before .before .before .read-text .kept .1 .1 .0;
+      list-room = c .before .before .before .before .before .before .before .before .read-list .kept .1 .0;
+      names-room = c .before .before .before .before .before .before .before .before .read-list .kept .1 .1 .0;
       before-list = _;
       before-names = _;
       numbers = t .numbers;
@@ -55,7 +53,7 @@ same-length c = search needs
 returns-2 : tie.Need-returns-2
 returns-2 c =
     printed-as
-    (bad-printed _ _ _ (c .before .before .before .before .before .before .before .before .before .before .before .before .if1 .left) (sym (c .before .before .before .before .before .before .before .before .before .read-text .ensures .answer) ∙ c .before .before .before .before .before .read .given .1))
+    (bad-printed _ _ _ (c .before .before .before .before .before .before .before .before .before .before .before .before .if1 .left) (sym (c .before .before .before .before .before .before .before .before .before .read-list .ensures .answer) ∙ c .before .before .before .before .before .read .given .1))
     (c .before .before .print-refusal .ensures)
 
 same-length-2 : tie.Need-same-length-2
@@ -64,7 +62,7 @@ same-length-2 c = search needs
 returns-3 : tie.Need-returns-3
 returns-3 c =
     printed-as
-    (read-printed _ _ _ (c .before .before .before .before .before .before .before .before .before .before .before .before .before .before .if1 .left) (sym (c .before .before .before .before .before .before .before .before .before .before .before .read-text .ensures .answer) ∙ c .before .before .before .before .before .before .before .read2 .given .1))
+    (read-printed _ _ _ (c .before .before .before .before .before .before .before .before .before .before .before .before .before .before .if1 .left) (sym (c .before .before .before .before .before .before .before .before .before .before .before .read-list .ensures .answer) ∙ c .before .before .before .before .before .before .before .read2 .given .1))
     (c .before .before .print-rows .ensures)
 
 pub sheet-spec : {M : Type 1} → statement M
@@ -72,9 +70,9 @@ sheet-spec =
     tie.close
     (tie.spec
     returns
-    slice-aggregate-read-text
-    slice-aggregate-read-text-2
-    read-text-requires
+    slice-aggregate-read-list
+    slice-aggregate-read-list-2
+    read-list-requires
     enum-known-read
     print-refusal-requires
     enum-known-read-2
