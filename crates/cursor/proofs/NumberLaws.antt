@@ -1,6 +1,6 @@
--- A number read at the place i of the bytes s, its digits ending at `end`; what a number that was read says. Assumes nothing.
-use mathlib.Core.Path.{_≡_, refl, ap}
-use mathlib.Core.Bool.{Bool, true, false, cond, _&&_, and-false, or-true}
+-- A number read at the place i of the bytes s, its digits ending at `end`. Assumes nothing.
+use mathlib.Core.Path.{_≡_, ap}
+use mathlib.Core.Bool.{true, false, _&&_, and-false, or-true}
 use mathlib.Core.Logic.{_⊎_, ⊎-elim}
 use mathlib.Core.List.{List}
 use Prim.Native.Nat.{ℕ, _+_, _-_, _≤_, _<_}
@@ -10,15 +10,15 @@ use lib.ListN.{length, take, drop, getD, length-drop}
 use lib.Seq.{drop-drop, getD-drop}
 use borrow.Author.Tests.{le-leb, lt-leb, eq-eqb, ne-eqb, leb-true}
 use Rattle.fold.proofs.BoolLaws.{and-left, and-right}
-use Rattle.alphabet.specs.declared.Class.the-variants.{Digit}
+use Rattle.cursor.specs.declared.Class.the-variants.{Digit}
 use Rattle.cursor.specs.declared.Cursor.{Cursor}
-use Rattle.cursor.specs.declared.NumberRead.the-variants.{Number, NoNumber}
-use Rattle.alphabet.specs.Bytes.{digitByte, passes}
+use Rattle.cursor.specs.declared.CellRead.the-variants.{NumberCell, NoCell}
+use Rattle.cursor.specs.Bytes.{digitByte, passes}
 use Rattle.cursor.specs.Digits.{Digits}
 use Rattle.cursor.specs.Pieces.{moved, digits, isNumber, decimal, numberOf, numberAt}
-use Rattle.alphabet.proofs.RunLaws.{first-left, run-length, run-at}
+use Rattle.cursor.proofs.RunLaws.{first-left, run-length, run-at}
 
-pub number-bad : (c : Cursor) (l : List ℕ) → isNumber l ≡ false → NoNumber ≡ numberAt c l
+pub number-bad : (c : Cursor) (l : List ℕ) → isNumber l ≡ false → NoCell ≡ numberAt c l
 unfolding numberAt
 number-bad c l h = rw h
 
@@ -74,31 +74,9 @@ module _ (s : List ℕ) (i end : ℕ) (e : end ≡ i + digits (drop i s)) where
 -- the number and the cursor past it are what the definition says
 pub number-read :
     (s : List ℕ) (c p : Cursor) (v : ℕ) → p ≡ moved c (digits (drop (c .at) s)) → isNumber (drop (c .at) s) ≡ true →
-    v ≡ decimal 0 (take (p .at - c .at) (drop (c .at) s)) → Number v p ≡ numberAt c (drop (c .at) s)
+    v ≡ decimal 0 (take (p .at - c .at) (drop (c .at) s)) → NumberCell v p ≡ numberAt c (drop (c .at) s)
 unfolding numberAt numberOf
 number-read s c p v e h k =
     let n : p .at - c .at ≡ digits (drop (c .at) s) = omega (arith, ap (λ (q : Cursor). q .at) e) in
     let w : v ≡ decimal 0 (take (digits (drop (c .at) s)) (drop (c .at) s)) = rw n at k in
     rw (h, w, e)
-
--- what a number that was read says, and what none says
-pub record NumberWas (c : Cursor) (l : List ℕ) (v : ℕ) (d : Cursor) : Type 0 where
-  pub number : isNumber l ≡ true
-  pub value : v ≡ numberOf l
-  pub past : d ≡ moved c (digits l)
-
-pub number-was : (c d : Cursor) (l : List ℕ) (v : ℕ) → Number v d ≡ numberAt c l → NumberWas c l v d
-unfolding numberAt
-number-was c d l v = by-test (isNumber l) refl
-  where
-    by-test : (t : Bool) → isNumber l ≡ t → Number v d ≡ cond t (Number (numberOf l) (moved c (digits l))) NoNumber → NumberWas c l v d
-    by-test true n e = record { number = n; value = cc; past = cc }
-    by-test false n e = absurd (let z : _≡_ {A = ℕ} 0 1 = cc in omega arith)
-
-pub number-was-none : (c : Cursor) (l : List ℕ) → NoNumber ≡ numberAt c l → isNumber l ≡ false
-unfolding numberAt
-number-was-none c l = by-test (isNumber l) refl
-  where
-    by-test : (t : Bool) → isNumber l ≡ t → NoNumber ≡ cond t (Number (numberOf l) (moved c (digits l))) NoNumber → isNumber l ≡ false
-    by-test true n e = absurd (let z : _≡_ {A = ℕ} 0 1 = cc in omega arith)
-    by-test false n e = n

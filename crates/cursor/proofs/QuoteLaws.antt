@@ -8,7 +8,7 @@ use lib.ListN.{length, drop, getD, drop-of-length-le}
 use lib.Seq.{drop-cons}
 use borrow.Author.Tests.{eq-eqb, ne-eqb}
 use Rattle.fold.specs.declared.Found.the-variants.{At, Nothing}
-use Rattle.alphabet.specs.Bytes.{plainByte}
+use Rattle.cursor.specs.Bytes.{plainByte}
 use Rattle.cursor.specs.Pieces.{plainPart, quotePart}
 
 module _ (s : List ℕ) (i : ℕ) where

@@ -1,4 +1,4 @@
--- The pieces of a line: number, name, field [01 §6]. Each looks at the bytes that are left. Definitions only.
+-- The pieces of a line: number, name, comma [01 §6]. Each looks at the bytes that are left. Definitions only.
 use mathlib.Core.Bool.{Bool, true, false, cond, not, _&&_, _||_}
 use mathlib.Core.List.{List, [], _∷_}
 use Prim.Native.Nat.{ℕ, _+_, _-_, _*_}
@@ -6,13 +6,15 @@ use lib.Dec.{leb, eqb}
 use lib.ListN.{getD, take, drop}
 use Rattle.fold.specs.declared.Found.{Found}
 use Rattle.fold.specs.declared.Found.the-variants.{At, Nothing}
-use Rattle.alphabet.specs.declared.Class.the-variants.{Digit, Bare}
+use Rattle.cursor.specs.declared.Class.the-variants.{Digit, Bare}
 use Rattle.cursor.specs.declared.Cursor.{Cursor}
-use Rattle.cursor.specs.declared.NumberRead.{NumberRead}
-use Rattle.cursor.specs.declared.NumberRead.the-variants.{Number, NoNumber}
+use Rattle.cursor.specs.declared.Column.{Column}
+use Rattle.cursor.specs.declared.Column.the-variants.{Numbers, Names}
+use Rattle.cursor.specs.declared.CellRead.{CellRead}
+use Rattle.cursor.specs.declared.CellRead.the-variants.{NumberCell, NameCell, NoCell}
 use Rattle.cursor.specs.declared.NameRead.{NameRead}
 use Rattle.cursor.specs.declared.NameRead.the-variants.{Name, NoName}
-use Rattle.alphabet.specs.Bytes.{plainByte, passes, run}
+use Rattle.cursor.specs.Bytes.{plainByte, passes, run}
 
 -- the cursor n bytes on, in the same line
 abbrev pub moved : Cursor → ℕ → Cursor
@@ -87,17 +89,34 @@ nameLength l = placeFound (nameEnd 0 (take nameMost l))
 unfoldable pub isComma : List ℕ → Bool
 isComma l = eqb (getD l 0 0) 44
 
--- what the readers of a number, of a field and of a name answer at a cursor
-unfoldable pub numberAt : Cursor → List ℕ → NumberRead
-numberAt c l = cond (isNumber l) (Number (numberOf l) (moved c (digits l))) NoNumber
+-- a cell of a column comes next, how long it is, and what is left behind a comma and that cell
+unfoldable pub isCell : Column → List ℕ → Bool
+isCell Numbers l = isNumber l
+isCell Names l = isName l
 
-unfoldable pub fieldAt : Cursor → List ℕ → NumberRead
-fieldAt c l = cond (isComma l) (numberAt (moved c 1) (drop 1 l)) NoNumber
+unfoldable pub cellLength : Column → List ℕ → ℕ
+cellLength Numbers l = digits l
+cellLength Names l = nameLength l
+
+unfoldable pub afterCell : Column → List ℕ → List ℕ
+afterCell column l = drop (1 + cellLength column (drop 1 l)) l
+
+-- what the readers of a number, of a name, of a cell and of a cell behind its comma answer at a cursor
+unfoldable pub numberAt : Cursor → List ℕ → CellRead
+numberAt c l = cond (isNumber l) (NumberCell (numberOf l) (moved c (digits l))) NoCell
 
 unfoldable pub nameAt : Cursor → List ℕ → NameRead
 nameAt c l = cond (isName l) (Name (moved c (nameLength l))) NoName
 
--- the same of a place that was found in a line
+unfoldable pub cellAt : Column → Cursor → List ℕ → CellRead
+cellAt Numbers c l = numberAt c l
+cellAt Names c l = cond (isName l) (NameCell (c .at) (nameLength l) (moved c (nameLength l))) NoCell
+
+unfoldable pub fieldAt : Bool → Column → Cursor → List ℕ → CellRead
+fieldAt first column c l =
+    cond first (cellAt column c l) (cond (isComma l) (cellAt column (moved c 1) (drop 1 l)) NoCell)
+
+-- a name that ends at a place that was found, in a line
 abbrev pub nameTo : ℕ → Found → NameRead
 nameTo line (At i) = Name (record { at = i; line = line })
 nameTo line Nothing = NoName

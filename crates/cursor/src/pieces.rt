@@ -1,14 +1,14 @@
 // A cursor's way past the pieces of a line: runs, numbers, names [01 §6].
+use super::CellRead;
+use super::Class;
 use super::Cursor;
 use super::NameRead;
-use super::NumberRead;
-use alphabet::Class;
-use alphabet::passes_at;
-use alphabet::plain_byte;
+use super::alphabet::passes_at;
+use super::alphabet::plain_byte;
 ghost use mathlib.Core.Path.{_≡_};
 ghost use Prim.Native.Nat.{_-_, _<_};
 ghost use lib.ListN.{drop, take};
-ghost use Rattle.alphabet.specs.Bytes.{passes, run};
+ghost use Rattle.cursor.specs.Bytes.{passes, run};
 ghost use Rattle.cursor.specs.Digits.{Digits};
 ghost use Rattle.cursor.specs.Pieces.{moved, nextLine, decimal, numberAt, nameAt, nameTo, nameEnd, plainPart, quotePart};
 
@@ -51,24 +51,24 @@ impl Cursor {
     }
 
     // Past a number: one to nine digits, no leading zero but 0 itself.
-    pub fn number(self, s: &[u8]) -> NumberRead
+    pub(crate) fn number(self, s: &[u8]) -> CellRead
         ensures { λ r. ⌜ r ≡ numberAt self (drop (self .at) (now (s .entry))) ⌝ }
     {
         let at = self.at;
         let past = self.skip(Class::Digit, s);
         let end = past.at;
         if end == at {
-            return NumberRead::NoNumber;
+            return CellRead::NoCell;
         }
         if 9 < end - at {
-            return NumberRead::NoNumber;
+            return CellRead::NoCell;
         }
         if 1 < end - at {
             if s[at] == 48 {
-                return NumberRead::NoNumber;
+                return CellRead::NoCell;
             }
         }
-        NumberRead::Number(value(s, at, end), past)
+        CellRead::NumberCell(value(s, at, end), past)
     }
 
     // In a quoted name: plain bytes up to the next quote.
@@ -134,7 +134,7 @@ impl Cursor {
     }
 
     // Past a name of 1 to 24 bytes, quoted or not: no more than 24 bytes are looked at.
-    pub fn name(self, s: &[u8]) -> NameRead
+    pub(crate) fn name(self, s: &[u8]) -> NameRead
         ensures { λ r. ⌜ r ≡ nameAt self (drop (self .at) (now (s .entry))) ⌝ }
     {
         let at = self.at;

@@ -1,3 +1,2 @@
-pub mod PlaceLaws
-pub mod SheetLaws
 pub mod RoomLaws
+pub mod SheetLaws

@@ -13,12 +13,12 @@ use Rattle.answers.specs.declared.Answer.the-variants as answer
 use Rattle.answers.specs.Answer.{givenBy}
 use Rattle.text.specs.declared.Reading.{Reading}
 use Rattle.text.specs.declared.Reading.the-variants.{BadLine, Rows}
-use Rattle.text.specs.Text.{reading, rowNumbers, rowPlaces}
+use Rattle.list.specs.List.{reading, rowNumbers, rowPlaces}
 use Rattle.print.specs.Card.{cardText}
 use Rattle.print.proofs.PrintLaws.{refusal-short, card-short}
 use Rattle.calculate.specs.Whole.{whole}
 use Rattle.sheet.specs.Sheet.{namesOf, blankCard, done, Sheet, refusedWith, sheetWith, sheetBy, sheetOf, fitted, sheetMost}
-use Rattle.sheet.proofs.PlaceLaws.{rows-stand}
+use Rattle.list.proofs.PlaceLaws.{rows-stand}
 use Rattle.sheet.proofs.SheetLaws.{many-count}
 
 refused-short : (given : List ℕ) → length (refusedWith given .text) ≤ sheetMost

@@ -8,16 +8,16 @@ use native.Mathlib.Omega.{arith}
 use lib.ListN.{length, getD, take, drop, List·getD-append}
 use lib.Seq.{paste, take-all, take-at, drop-append-le, length-take-le}
 use borrow.Author.Tests.{le-leb, lt-leb, eq-eqb, ne-eqb}
-use Rattle.layout.specs.Counts.{cardMost, rowsMost}
+use Rattle.layout.specs.Counts.{fieldCount, cardMost, rowsMost}
 use Rattle.fold.proofs.BoolLaws.{and-both}
 use Rattle.fold.proofs.FoldLaws.{every-of}
 use Rattle.answers.specs.declared.Answer.the-variants as answer
 use Rattle.answers.specs.Answer.{givenBy}
 use Rattle.rows.proofs.TestLaws.{size-over}
-use Rattle.line.specs.Line.{fieldCount}
 use Rattle.text.specs.declared.Reading.the-variants.{BadLine, Rows}
 use Rattle.cursor.specs.Names.{nameAtPlace, namesAt}
-use Rattle.text.specs.Text.{reading, rowNumbers, rowPlaces, over, blocksOver}
+use Rattle.list.specs.List.{reading, rowNumbers, rowPlaces}
+use Rattle.text.specs.Text.{over, blocksOver}
 use Rattle.print.specs.Card.{headerSize, lineMost, placeRight, printable, cardPrinted, refusalMost, refusalPrinted, Printed}
 use Rattle.print.specs.Write.{written}
 use Rattle.print.proofs.PrintLaws.{nothing-printed, wrote-printed}
@@ -27,7 +27,8 @@ use Rattle.calculate.specs.Whole.{whole}
 use Rattle.calculate.proofs.AnswerLaws.{answered-size}
 use Rattle.sheet.specs.Ready.{RowsReady}
 use Rattle.sheet.specs.Sheet.{namesOf, blankCard, Sheet, refusedWith, sheetWith, sheetBy, sheetOf, fitted, sheetMost, Filled}
-use Rattle.sheet.proofs.PlaceLaws.{PlaceInside, RowsStand, rows-stand}
+use Rattle.text.proofs.PlaceLaws.{PlaceInside}
+use Rattle.list.proofs.PlaceLaws.{RowsStand, rows-stand}
 
 -- a buffer over whose start n blocks of w numbers were written
 blocks-front : (w n : ℕ) (xs l : List ℕ) → n ≤ 256 → length xs ≡ n * w → blocksOver rowsMost w n xs l ≡ xs ++ drop (length xs) l

@@ -3,10 +3,10 @@ use mathlib.Core.Path.{_≡_}
 use mathlib.Core.List.{List}
 use Prim.Native.Nat.{ℕ, _*_, _≤_}
 use lib.ListN.{length}
-use Rattle.layout.specs.Counts.{listMost, rowsMost}
-use Rattle.line.specs.Line.{fieldCount}
+use Rattle.layout.specs.Counts.{fieldCount, listMost, rowsMost}
 use Rattle.text.specs.declared.Reading.the-variants.{Rows}
-use Rattle.text.specs.Text.{reading, rowNumbers, rowPlaces, rowsRead, blocksOver}
+use Rattle.list.specs.List.{reading, rowNumbers, rowPlaces, rowsRead}
+use Rattle.text.specs.Text.{blocksOver}
 use Rattle.sheet.specs.Sheet.{sheetMost}
 
 -- the text was read whole, n rows, into buffers with room for 256, and there is room to print

@@ -2,24 +2,24 @@
 -- Definitions only.
 use mathlib.Core.Path.{_≡_}
 use mathlib.Core.Bool.{Bool, cond}
-use mathlib.Core.List.{List, [], map}
+use mathlib.Core.List.{List, []}
 use Prim.Native.Nat.{ℕ, _+_, _*_}
 use lib.Dec.{leb, eqb}
 use lib.ListN.{length, getD, replicate}
-use Rattle.layout.specs.Counts.{cardMost}
+use Rattle.layout.specs.Counts.{rowsMost, cardMost}
 use Rattle.answers.specs.declared.Answer.{Answer}
 use Rattle.answers.specs.declared.Answer.the-variants as answer
 use Rattle.answers.specs.Answer.{givenBy}
 use Rattle.text.specs.declared.Reading.{Reading}
 use Rattle.text.specs.declared.Reading.the-variants.{BadLine, Rows}
-use Rattle.text.specs.Grammar.{Row, rowsOf}
-use Rattle.text.specs.Text.{rowsMost, reading, rowNumbers}
+use Rattle.text.specs.Grammar.{allNames}
+use Rattle.list.specs.List.{reading, rowNumbers, rowsOf}
 use Rattle.print.specs.Card.{headerSize, lineMost, cardText, refusalText, Printed}
 use Rattle.calculate.specs.Whole.{whole}
 
 -- the names of a text's rows, as they stand in it
 unfoldable pub namesOf : List ℕ → List (List ℕ)
-namesOf s = map (λ (r : Row). r .name) (rowsOf s)
+namesOf s = allNames (rowsOf s)
 
 -- room for the card of 256 rows
 unfoldable pub blankCard : List ℕ

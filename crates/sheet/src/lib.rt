@@ -8,12 +8,12 @@ use layout::CARD;
 use layout::FIELDS;
 use layout::LIST;
 use layout::ROWS;
+use list::read_list;
 use print::HEADER;
 use print::LINE_MOST;
 use print::print_card;
 use print::print_refusal;
 use text::Reading;
-use text::read_text;
 ghost use Prim.Native.Nat.{_≤_};
 ghost use lib.ListN.{length};
 ghost use Rattle.sheet.specs.Sheet.{sheetMost, refusedWith, sheetOf, fitted, Filled};
@@ -69,7 +69,7 @@ fn print_text(text: &[u8], out: &mut [u8]) -> Page
 {
     let mut list = [0u64; LIST];
     let mut names = [0u64; NAMES];
-    let read = read_text(text, &mut list, &mut names);
+    let read = read_list(text, &mut list, &mut names);
     match read {
         Reading::BadLine(line) => refuse(numbers(Answer::Text(line)), out),
         Reading::Rows(n) => print_rows(text, &list, &names, n, out),

@@ -1,9 +1,9 @@
--- Blocks written one after the other into a buffer. Assumes nothing.
+-- Blocks written one after the other into a buffer.
 use mathlib.Core.Path.{_≡_, sym, ap, _∙_}
 use mathlib.Core.Logic.{⊎-elim}
 use mathlib.Core.List.{List, _++_}
-use Prim.Native.Nat.{ℕ, _+_, _*_, _≤_, _<_, min}
-use native.Mathlib.Nat.{suc-mul, add-mul, one-mul, zero-mul, mul-le-mul-right, le-trans}
+use Prim.Native.Nat.{ℕ, _+_, _*_, _/_, _≤_, _<_, min}
+use native.Mathlib.Nat.{suc-mul, add-mul, one-mul, zero-mul, mul-le-mul-right, le-trans, div-mul-le-self, div-zero}
 use native.Mathlib.Omega.{arith}
 use lib.ListN.{length, take, drop, length-append}
 use lib.Seq.{paste, take-add, drop-drop, take-at, drop-at, length-take-le, take-length}
@@ -18,6 +18,15 @@ block-inside n room w len h k =
     let q : n * w + w ≤ room * w = rw (suc-mul n w) at m in
     le-trans q k
 
+-- where n is below the room that a buffer has
+pub room-inside : (n w len : ℕ) → n < len / w → n * w + w ≤ len
+room-inside n w len h = block-inside n (len / w) w len h (div-mul-le-self len w)
+
+-- a block of nothing changes nothing
+pub kept-empty : (n : ℕ) (block l : List ℕ) → length block ≡ 0 → l ≡ keptIn (length l / length block) n block l
+unfolding keptIn
+kept-empty n block l h = rw (h, div-zero (length l), le-ltb n 0 (omega arith))
+
 pub kept-below : (room n : ℕ) (block l : List ℕ) → n < room → paste l (n * length block) block (length block) ≡ keptIn room n block l
 unfolding keptIn
 kept-below room n block l h = rw (lt-ltb n room h)
@@ -25,6 +34,12 @@ kept-below room n block l h = rw (lt-ltb n room h)
 pub kept-above : (room n : ℕ) (block l : List ℕ) → room ≤ n → l ≡ keptIn room n block l
 unfolding keptIn
 kept-above room n block l h = rw (le-ltb n room h)
+
+-- a block of so many numbers, by another name for how many
+pub kept-as :
+    (a out out′ : List ℕ) (n w w′ : ℕ) → w ≡ w′ → out′ ≡ keptIn (length out / length (take w a)) n (take w a) out →
+    out′ ≡ keptIn (length out / length (take w′ a)) n (take w′ a) out
+kept-as a out out′ n w w′ e h = rw e at h
 
 pub kept-start : (room w : ℕ) (xs l : List ℕ) → l ≡ blocksOver room w 0 xs l
 unfolding blocksOver over

@@ -1,4 +1,4 @@
--- A name comes next exactly where the bytes up to the next comma are a name. Assumes nothing.
+-- A name comes next exactly where the bytes up to the next comma, or to the end, are a name.
 use mathlib.Core.Path.{_≡_, refl, ap, _∙_}
 use mathlib.Core.Bool.{true, false, cond, false≢true}
 use mathlib.Core.Logic.{⊎-elim}
@@ -13,10 +13,10 @@ use borrow.Author.Tests.{ne-eqb, eqb-true, eqb-false}
 use Rattle.fold.specs.declared.Found.{Found}
 use Rattle.fold.specs.declared.Found.the-variants.{At, Nothing}
 use Rattle.fold.proofs.BoolLaws.{passes-or-fails}
-use Rattle.alphabet.specs.declared.Class.the-variants.{Bare}
-use Rattle.alphabet.specs.Bytes.{bareByte, passes, run}
+use Rattle.cursor.specs.declared.Class.the-variants.{Bare}
+use Rattle.cursor.specs.Bytes.{bareByte, passes, run}
 use Rattle.cursor.specs.Pieces.{plainPart, nameMost, bareEnd, nameEnd, isFound, placeFound, isName, nameLength}
-use Rattle.alphabet.proofs.RunLaws.{run-length}
+use Rattle.cursor.proofs.RunLaws.{run-length}
 use Rattle.text.specs.Grammar.{All, Form, bare, quoted, IsNameText}
 use Rattle.text.proofs.GrammarRuns.{run-all, run-append}
 use Rattle.text.proofs.GrammarQuotes.{impossible, same-place, plain-no-quote, bare-plain, Closed, parts-sound, body-complete}
@@ -117,23 +117,28 @@ form-complete (quoted {w} h) u s q z =
     let k : 1 + length w + 1 ≡ suc (length (w ++ 34 ∷ [])) = omega (arith, length-append w (34 ∷ [])) in
     rw e (body-complete h u q 1 ∙ ap At k)
 
--- what stands in the window behind a name that a comma follows
-window-rest : (m : ℕ) (x : List ℕ) → (getD (take m (44 ∷ x)) 0 0 ≡ 34 → ⊥) × (run (passes Bare) (take m (44 ∷ x)) ≡ 0)
+-- a cell ends at the line's end or before a comma
+pub data CellEnd : List ℕ → Type 0 where
+  over : CellEnd []
+  comma : {x : List ℕ} → CellEnd (44 ∷ x)
+
+-- what stands in the window behind a name that ends there
+window-rest : (m : ℕ) (u : List ℕ) → CellEnd u → (getD (take m u) 0 0 ≡ 34 → ⊥) × (run (passes Bare) (take m u) ≡ 0)
 unfolding run passes bareByte
-window-rest zero x = ((λ e. omega arith), refl)
-window-rest (suc m) x = ((λ e. omega arith), refl)
+window-rest zero u e = ((λ e. omega arith), refl)
+window-rest (suc m) u over = ((λ e. omega arith), refl)
+window-rest (suc m) u comma = ((λ e. omega arith), refl)
 
-pub record NameThere (w x : List ℕ) : Type 0 where
-  pub name : isName (w ++ 44 ∷ x) ≡ true
-  pub long : nameLength (w ++ 44 ∷ x) ≡ length w
+pub record NameThere (w u : List ℕ) : Type 0 where
+  pub name : isName (w ++ u) ≡ true
+  pub long : nameLength (w ++ u) ≡ length w
 
-pub name-complete : (w x : List ℕ) → IsNameText w → NameThere w x
+pub name-complete : (w u : List ℕ) → IsNameText w → CellEnd u → NameThere w u
 unfolding isName nameLength isFound placeFound
-name-complete w x h =
+name-complete w u h end =
     let m : nameMost ≡ length w + (nameMost - length w) = omega (arith, h .most) in
-    let u = take (nameMost - length w) (44 ∷ x) in
-    let r = window-rest (nameMost - length w) x in
-    let e : take nameMost (w ++ 44 ∷ x) ≡ w ++ u =
-    ap (λ (k : ℕ). take k (w ++ 44 ∷ x)) m ∙ take-append-add w (44 ∷ x) (nameMost - length w) in
-    let f : nameEnd 0 (take nameMost (w ++ 44 ∷ x)) ≡ At (length w) = rw e (form-complete (h .form) u (h .some) (r .0) (r .1)) in
+    let v = take (nameMost - length w) u in
+    let r = window-rest (nameMost - length w) u end in
+    let e : take nameMost (w ++ u) ≡ w ++ v = ap (λ (k : ℕ). take k (w ++ u)) m ∙ take-append-add w u (nameMost - length w) in
+    let f : nameEnd 0 (take nameMost (w ++ u)) ≡ At (length w) = rw e (form-complete (h .form) v (h .some) (r .0) (r .1)) in
     record { name = rw f; long = rw f }

@@ -1,4 +1,4 @@
--- A number comes next exactly where the bytes that come next are a number, and its value is theirs. Assumes nothing.
+-- A number comes next exactly where the bytes that come next are a number, and its value is theirs.
 use mathlib.Core.Path.{_≡_, refl, sym, _∙_}
 use mathlib.Core.Bool.{Bool, true, false, not, _&&_, _||_, or-true}
 use mathlib.Core.Logic.{_⊎_, inl, inr, ⊎-elim}
@@ -11,10 +11,10 @@ use lib.ListN.{length, take, getD, List·getD-append}
 use lib.Seq.{length-take-le, take-append-seam, getD-take}
 use borrow.Author.Tests.{le-leb, leb-true, ne-eqb, eqb-false, not-true}
 use Rattle.fold.proofs.BoolLaws.{and-left, and-right}
-use Rattle.alphabet.specs.declared.Class.the-variants.{Digit}
-use Rattle.alphabet.specs.Bytes.{digitByte, passes}
+use Rattle.cursor.specs.declared.Class.the-variants.{Digit}
+use Rattle.cursor.specs.Bytes.{digitByte, passes}
 use Rattle.cursor.specs.Pieces.{digits, isNumber, numberOf}
-use Rattle.alphabet.proofs.RunLaws.{run-length}
+use Rattle.cursor.proofs.RunLaws.{run-length}
 use Rattle.text.specs.Grammar.{All, IsNumber}
 use Rattle.text.proofs.GrammarRuns.{run-all, run-append}
 

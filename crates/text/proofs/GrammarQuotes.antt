@@ -1,4 +1,4 @@
--- A quoted name closes exactly behind plain bytes and doubled quotes by turns. Assumes nothing.
+-- A quoted name closes exactly behind plain bytes and doubled quotes by turns.
 use mathlib.Core.Path.{_≡_, refl, sym, ap, ap₂, _∙_}
 use mathlib.Core.Bool.{true, false, cond, not, _&&_}
 use mathlib.Core.Logic.{_⊎_, inl, inr, ⊎-elim}
@@ -11,12 +11,13 @@ use lib.ListN.{length, getD}
 use borrow.Author.Tests.{ne-eqb, eqb-true, eqb-false, not-true}
 use Rattle.fold.specs.declared.Found.the-variants.{At, Nothing}
 use Rattle.fold.proofs.BoolLaws.{and-right, passes-or-fails}
-use Rattle.alphabet.specs.Bytes.{plainByte, bareByte}
+use Rattle.cursor.specs.Bytes.{plainByte, bareByte}
 use Rattle.cursor.specs.Pieces.{plainPart, quotePart}
+use Rattle.cursor.proofs.NameLaws.{clash}
 use Rattle.text.specs.Grammar.{Body, empty, plain, doubled}
 
 pub impossible : {P : Type 0} {n : ℕ} → Nothing ≡ At n → P
-impossible e = absurd (let z : _≡_ {A = ℕ} 0 1 = cc in omega arith)
+impossible e = clash (cc)
 
 pub same-place : {m n : ℕ} → At m ≡ At n → m ≡ n
 same-place e = cc

@@ -1,11 +1,11 @@
--- A run of bytes that pass a test, cut off and put in front of others. Assumes nothing.
+-- A run of bytes that pass a test, cut off and put in front of others.
 use mathlib.Core.Path.{_≡_, refl, sym}
 use mathlib.Core.Bool.{Bool, true, false, cond}
 use mathlib.Core.List.{List, [], _∷_, _++_}
 use Prim.Native.Nat.{ℕ, suc, _+_}
 use native.Mathlib.Nat.{suc-add, zero-add}
 use lib.ListN.{length, take}
-use Rattle.alphabet.specs.Bytes.{run}
+use Rattle.cursor.specs.Bytes.{run}
 use Rattle.text.specs.Grammar.{All}
 
 module _ (f : ℕ → Bool) (ok : List ℕ → Bool) where

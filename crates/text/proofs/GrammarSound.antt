@@ -1,4 +1,4 @@
--- Lines that are all well formed are the grammar's lines: a text is its first line, a CRLF and the rest, or ends there. Assumes nothing.
+-- Lines that are all well formed are the grammar's lines: a text is its first line, a CRLF and the rest, or ends there.
 use mathlib.Core.Path.{_≡_, sym, ap, ap₂, subst, _∙_}
 use mathlib.Core.Bool.{true, false, false≢true}
 use mathlib.Core.Logic.{_⊎_, inl, inr, ⊎-elim}
@@ -10,10 +10,11 @@ use lib.ListN.{length, take, drop, length-drop, take-append-drop, drop-of-length
 use lib.Seq.{drop-drop, take-all}
 use borrow.Author.Tests.{eqb-true, not-false}
 use Rattle.fold.proofs.BoolLaws.{and-left, and-right, passes-or-fails, lt-or-le}
-use Rattle.alphabet.specs.declared.Class.the-variants.{InLine}
-use Rattle.alphabet.specs.Bytes.{crlf, passes, run}
-use Rattle.alphabet.proofs.RunLaws.{run-end}
-use Rattle.line.specs.Line.{isLine}
+use Rattle.cursor.specs.declared.Class.the-variants.{InLine}
+use Rattle.cursor.specs.declared.Column.{Column}
+use Rattle.cursor.specs.Bytes.{crlf, passes, run}
+use Rattle.cursor.proofs.RunLaws.{run-end}
+use Rattle.text.specs.Line.{isLine}
 use Rattle.text.specs.Text.{lines, lineLength, afterLine, goodLines}
 use Rattle.text.specs.Grammar.{Line, Lines, rowOf}
 use Rattle.text.proofs.GrammarLines.{line-sound}
@@ -49,54 +50,59 @@ split s = ⊎-elim inside over (lt-or-le (run (passes InLine) s) (length s))
         let o : length s ≤ n + 2 = omega arith in
         inr (sym (take-all n s h), drop-of-length-le s o)
 
-record GoodCons (l : List ℕ) (ls : List (List ℕ)) : Type 0 where
-  first : isLine l ≡ true
-  others : goodLines ls ≡ length ls
-
-good-inversion : (l : List ℕ) (ls : List (List ℕ)) → goodLines (l ∷ ls) ≡ suc (length ls) → GoodCons l ls
-good-inversion l ls h =
-    ⊎-elim
-    (λ (p : isLine l ≡ true). record { first = p; others = omega (arith, h, good-more l ls p) })
-    (λ (p : isLine l ≡ false). absurd (omega (arith, h, good-none l ls p)))
-    (passes-or-fails (isLine l))
+pub record GoodCons (ks : List Column) (l : List ℕ) (ls : List (List ℕ)) : Type 0 where
+  pub first : isLine ks l ≡ true
+  pub others : goodLines ks ls ≡ length ls
 
 after-shorter : (b : ℕ) (s : List ℕ) (n : ℕ) → length s ≤ n → length (afterLine (b ∷ s)) ≤ n
 unfolding afterLine
 after-shorter b s n h = omega (arith, length-drop (lineLength (b ∷ s) + 2) (b ∷ s))
 
-put-together :
-    (t : List ℕ) → Line (take (lineLength t) t) (rowOf (take (lineLength t) t)) → Lines (afterLine t) (map rowOf (lines (afterLine t))) →
-    Lines t (rowOf (take (lineLength t) t) ∷ map rowOf (lines (afterLine t)))
-unfolding lines
-put-together t l r =
-    ⊎-elim
-    (λ (e : t ≡ take (lineLength t) t ++ 13 ∷ 10 ∷ afterLine t).
-    subst (λ (x : List ℕ). Lines x (rowOf (take (lineLength t) t) ∷ map rowOf (lines (afterLine t)))) (sym e) (Lines.more l r))
-    (λ (e : (t ≡ take (lineLength t) t) × (afterLine t ≡ [])).
-    subst (λ (x : List ℕ). Lines x (rowOf (take (lineLength t) t) ∷ map rowOf (lines (afterLine t)))) (sym (e .0))
-    (subst (λ (x : List ℕ). Lines (take (lineLength t) t) (rowOf (take (lineLength t) t) ∷ map rowOf (lines x))) (sym (e .1)) (Lines.last l)))
-    (split t)
+module _ (ks : List Column) where
+  pub good-inversion : (l : List ℕ) (ls : List (List ℕ)) → goodLines ks (l ∷ ls) ≡ suc (length ls) → GoodCons ks l ls
+  good-inversion l ls h =
+      ⊎-elim
+      (λ (p : isLine ks l ≡ true). record { first = p; others = omega (arith, h, good-more ks l ls p) })
+      (λ (p : isLine ks l ≡ false). absurd (omega (arith, h, good-none ks l ls p)))
+      (passes-or-fails (isLine ks l))
 
-no-lines : Lines [] (map rowOf (lines []))
-unfolding lines
-no-lines = Lines.none
+  put-together :
+      (t : List ℕ) → Line ks (take (lineLength t) t) (rowOf ks (take (lineLength t) t)) →
+      Lines ks (afterLine t) (map (rowOf ks) (lines (afterLine t))) →
+      Lines ks t (rowOf ks (take (lineLength t) t) ∷ map (rowOf ks) (lines (afterLine t)))
+  unfolding lines
+  put-together t l r =
+      let first = take (lineLength t) t in
+      ⊎-elim
+      (λ (e : t ≡ first ++ 13 ∷ 10 ∷ afterLine t).
+      subst (λ (x : List ℕ). Lines ks x (rowOf ks first ∷ map (rowOf ks) (lines (afterLine t)))) (sym e) (Lines.more l r))
+      (λ (e : (t ≡ first) × (afterLine t ≡ [])).
+      subst (λ (x : List ℕ). Lines ks x (rowOf ks first ∷ map (rowOf ks) (lines (afterLine t)))) (sym (e .0))
+      (subst (λ (x : List ℕ). Lines ks first (rowOf ks first ∷ map (rowOf ks) (lines x))) (sym (e .1)) (Lines.last l)))
+      (split t)
 
-abbrev pub AllLines : List ℕ → Type 0
-AllLines s = goodLines (lines s) ≡ length (lines s) → Lines s (map rowOf (lines s))
+  no-lines : Lines ks [] (map (rowOf ks) (lines []))
+  unfolding lines
+  no-lines = Lines.none
+
+-- lines that are all well formed are the grammar's
+abbrev pub AllLines : List Column → List ℕ → Type 0
+AllLines ks s = goodLines ks (lines s) ≡ length (lines s) → Lines ks s (map (rowOf ks) (lines s))
 
 -- the first line, and the shorter text behind it
-lines-sound-step : (n : ℕ) (s : List ℕ) → length s ≤ suc n → ((t : List ℕ) → length t ≤ n → AllLines t) → AllLines s
-lines-sound-step n [] k f h = no-lines
-lines-sound-step n (b ∷ s) k f h =
-    let c : lines (b ∷ s) ≡ take (lineLength (b ∷ s)) (b ∷ s) ∷ lines (afterLine (b ∷ s)) = cut-some (b ∷ s) (omega arith) in
-    let g = good-inversion (take (lineLength (b ∷ s)) (b ∷ s)) (lines (afterLine (b ∷ s))) (rw c at h) in
+lines-sound-step : (ks : List Column) (n : ℕ) (s : List ℕ) → length s ≤ suc n → ((t : List ℕ) → length t ≤ n → AllLines ks t) → AllLines ks s
+lines-sound-step ks n [] k f h = no-lines ks
+lines-sound-step ks n (b ∷ s) k f h =
+    let first = take (lineLength (b ∷ s)) (b ∷ s) in
+    let c : lines (b ∷ s) ≡ first ∷ lines (afterLine (b ∷ s)) = cut-some (b ∷ s) (omega arith) in
+    let g = good-inversion ks first (lines (afterLine (b ∷ s))) (rw c at h) in
     let r = f (afterLine (b ∷ s)) (after-shorter b s n (omega arith)) (g .others) in
-    rw c (put-together (b ∷ s) (line-sound (take (lineLength (b ∷ s)) (b ∷ s)) (g .first)) r)
+    rw c (put-together ks (b ∷ s) (line-sound ks first (g .first)) r)
 
-pub lines-sound : (n : ℕ) (s : List ℕ) → length s ≤ n → AllLines s
-lines-sound zero s k = of-empty s k
+pub lines-sound : (ks : List Column) (n : ℕ) (s : List ℕ) → length s ≤ n → AllLines ks s
+lines-sound ks zero s k = of-empty s k
   where
-    of-empty : (s : List ℕ) → length s ≤ 0 → AllLines s
-    of-empty [] k h = no-lines
+    of-empty : (s : List ℕ) → length s ≤ 0 → AllLines ks s
+    of-empty [] k h = no-lines ks
     of-empty (b ∷ s) k h = absurd (omega arith)
-lines-sound (suc n) s k = lines-sound-step n s k (λ t m. lines-sound n t m)
+lines-sound ks (suc n) s k = lines-sound-step ks n s k (λ t m. lines-sound ks n t m)

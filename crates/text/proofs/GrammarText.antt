@@ -1,6 +1,7 @@
--- A well-formed line holds no CR, so that cutting a text at CRLF first gives back its lines. Assumes nothing.
+-- A well-formed line holds no CR, so that cutting a text at CRLF first gives back its lines.
 use mathlib.Core.Path.{_≡_, refl, ap, ap₂, _∙_}
 use mathlib.Core.Bool.{Bool, true, not, _&&_}
+use mathlib.Core.Logic.{_⊎_, inl, inr, ⊎-elim}
 use mathlib.Core.List.{List, [], _∷_, _++_, map, append-nil}
 use Prim.Native.Nat.{ℕ, suc, _+_, _≤_, _<_}
 use native.Mathlib.Nat.{add-zero}
@@ -10,14 +11,15 @@ use lib.ListN.{length, take, drop, length-append, drop-of-length-le}
 use lib.Seq.{drop-append-add, take-append-seam, take-length}
 use borrow.Author.Tests.{leb-true, ne-eqb, not-true}
 use Rattle.fold.proofs.BoolLaws.{and-left, and-right}
-use Rattle.alphabet.specs.declared.Class.the-variants.{InLine}
-use Rattle.alphabet.specs.Bytes.{digitByte, plainByte, bareByte, crlf, passes, run}
+use Rattle.cursor.specs.declared.Class.the-variants.{InLine}
+use Rattle.cursor.specs.declared.Column.{Column}
+use Rattle.cursor.specs.Bytes.{digitByte, plainByte, bareByte, crlf, passes, run}
 use Rattle.text.specs.Text.{lines, lineLength, afterLine, goodLines}
-use Rattle.text.specs.Grammar.{All, IsNumber, Body, empty, plain, doubled, Form, bare, quoted, Fields, Row, Line, line, Lines, rowOf}
+use Rattle.text.specs.Grammar.{All, IsNumber, Body, empty, plain, doubled, Form, bare, quoted, Row, Cells, Line, Lines, rowOf}
 use Rattle.text.proofs.GrammarRuns.{run-append, all-append, all-weaker}
 use Rattle.text.proofs.GrammarQuotes.{bare-plain}
 use Rattle.text.proofs.GrammarLines.{line-complete}
-use Rattle.text.proofs.LineLaws.{lines-cut}
+use Rattle.text.proofs.CutLaws.{lines-cut}
 use Rattle.text.proofs.RowAtLaws.{good-more}
 
 -- no CR
@@ -56,16 +58,21 @@ form-no-cr (quoted {w} h) = (refl, all-append noCr w (34 ∷ []) (body-no-cr h) 
 number-no-cr : (w : List ℕ) (n : ℕ) → IsNumber w n → All noCr w
 number-no-cr w n h = all-weaker digitByte noCr digit-no-cr w (h .digits)
 
-fields-no-cr : {k : ℕ} {l ns : List ℕ} → Fields k l ns → All noCr l
-fields-no-cr Fields.none = tt
-fields-no-cr (Fields.more {k} {n} {w} {l} h r) = (refl, all-append noCr w l (number-no-cr w n h) (fields-no-cr r))
+cells-no-cr : {ks : List Column} {l : List ℕ} {r : Row} → Cells ks l r → All noCr l
+cells-no-cr Cells.none = tt
+cells-no-cr (Cells.number {ks} {n} {w} {l} h r) = (refl, all-append noCr w l (number-no-cr w n h) (cells-no-cr r))
+cells-no-cr (Cells.name {ks} {w} {l} h r) = (refl, all-append noCr w l (form-no-cr (h .form)) (cells-no-cr r))
 
-line-no-cr : {l : List ℕ} {r : Row} → Line l r → All noCr l
-line-no-cr (line {n} {w} {v} {l} a b c) =
-    all-append noCr w (44 ∷ v ++ l) (number-no-cr w n a) (refl, all-append noCr v l (form-no-cr (b .form)) (fields-no-cr c))
+cells-long : {ks : List Column} {l : List ℕ} {r : Row} → Cells ks l r → (length l ≡ 0) ⊎ (1 < length l)
+cells-long Cells.none = inl refl
+cells-long (Cells.number {ks} {n} {w} {l} h r) = inr (omega (arith, h .some, length-append w l))
+cells-long (Cells.name {ks} {w} {l} h r) = inr (omega (arith, h .some, length-append w l))
 
-line-some : {l : List ℕ} {r : Row} → Line l r → 0 < length l
-line-some (line {n} {w} {v} {l} a b c) = omega (arith, a .some, length-append w (44 ∷ v ++ l))
+line-no-cr : {ks : List Column} {l : List ℕ} {r : Row} → Line ks l r → All noCr l
+line-no-cr h = cells-no-cr h .1
+
+line-some : {ks : List Column} {l : List ℕ} {r : Row} → Line ks l r → 0 < length l
+line-some h = ⊎-elim (λ e. absurd (omega arith)) (λ e. omega arith) (cells-long h)
 
 -- where a line without CR ends
 in-line : (b : ℕ) (l : List ℕ) → noCr b ≡ true → passes InLine (b ∷ l) ≡ true
@@ -109,21 +116,23 @@ lines-one l h k =
     cut-some l k ∙ rw (only-ends l h, take-length l, e)
 
 -- lines of which all are well formed
-pub record RowsThere (ls : List (List ℕ)) (rs : List Row) : Type 0 where
-  pub good : goodLines ls ≡ length ls
-  pub are : map rowOf ls ≡ rs
+pub record RowsThere (ks : List Column) (ls : List (List ℕ)) (rs : List Row) : Type 0 where
+  pub good : goodLines ks ls ≡ length ls
+  pub are : map (rowOf ks) ls ≡ rs
 
-more-there : {l : List ℕ} {r : Row} → Line l r → (ls : List (List ℕ)) (rs : List Row) → RowsThere ls rs → RowsThere (l ∷ ls) (r ∷ rs)
-more-there {l} {r} h ls rs t =
+more-there :
+    {ks : List Column} {l : List ℕ} {r : Row} → Line ks l r → (ls : List (List ℕ)) (rs : List Row) → RowsThere ks ls rs →
+    RowsThere ks (l ∷ ls) (r ∷ rs)
+more-there {ks} {l} {r} h ls rs t =
     let c = line-complete h in
-    record { good = good-more l ls (c .good) ∙ ap suc (t .good); are = ap₂ _∷_ (c .row) (t .are) }
+    record { good = good-more ks l ls (c .good) ∙ ap suc (t .good); are = ap₂ _∷_ (c .row) (t .are) }
 
-none-there : RowsThere [] []
+none-there : {ks : List Column} → RowsThere ks [] []
 unfolding goodLines run
 none-there = record { good = refl; are = refl }
 
-pub lines-complete : {s : List ℕ} {rs : List Row} → Lines s rs → RowsThere (lines s) rs
+pub lines-complete : {ks : List Column} {s : List ℕ} {rs : List Row} → Lines ks s rs → RowsThere ks (lines s) rs
 unfolding lines
 lines-complete Lines.none = none-there
-lines-complete (Lines.last {l} {r} h) = rw (lines-one l (line-no-cr h) (line-some h)) (more-there h [] [] none-there)
-lines-complete (Lines.more {l} {s} {r} {rs} h t) = rw (lines-join l s (line-no-cr h)) (more-there h (lines s) rs (lines-complete t))
+lines-complete (Lines.last {ks} {l} {r} h) = rw (lines-one l (line-no-cr h) (line-some h)) (more-there h [] [] none-there)
+lines-complete (Lines.more {ks} {l} {s} {r} {rs} h t) = rw (lines-join l s (line-no-cr h)) (more-there h (lines s) rs (lines-complete t))

@@ -1,5 +1,5 @@
--- The grammar theorem [01 §6]: the reading accepts exactly the texts that the grammar has, its rows are the grammar's rows, and a bad line
--- that it names is the first that is none. Each part cites the laws of lines. Assumes nothing.
+-- The grammar theorem [01 §6], over all headers and columns: the reading accepts exactly the texts that the grammar has, its rows are the
+-- grammar's rows, and a bad line that it names is the first that is none. Each part cites the laws of lines.
 use mathlib.Core.Path.{_≡_, refl, sym, ap, subst, _∙_}
 use mathlib.Core.Bool.{true, false}
 use mathlib.Core.Logic.{_⊎_, ⊎-elim}
@@ -12,149 +12,150 @@ use lib.ListN.{length, take, drop, getD, drop-of-length-le, length-map}
 use lib.Seq.{getD-drop, drop-append-add, take-append-seam, take-length}
 use borrow.Author.Tests.{eqb-true, eq-eqb, eqb-false}
 use Rattle.fold.proofs.BoolLaws.{passes-or-fails, not-both}
-use Rattle.alphabet.specs.Bytes.{run}
-use Rattle.alphabet.proofs.RunLaws.{run-length, run-end, run-at}
-use Rattle.line.specs.Line.{isLine}
+use Rattle.cursor.specs.declared.Column.{Column}
+use Rattle.cursor.specs.Bytes.{run}
+use Rattle.cursor.proofs.NameLaws.{clash}
+use Rattle.cursor.proofs.RunLaws.{run-length, run-end, run-at}
 use Rattle.text.specs.declared.Reading.the-variants.{BadLine, Rows}
-use Rattle.text.specs.Header.{header}
-use Rattle.text.specs.Text.{textMost, lines, lineLength, afterLine, nextIsLine, goodLines, linesRead, same, sizeRight, headed, rowLines, reading}
-use Rattle.text.specs.Grammar.{All, Row, Line, Lines, Text, alone, rows, rowOf, rowsOf}
+use Rattle.text.specs.Line.{isLine}
+use Rattle.text.specs.Text.{textMost, lines, lineLength, afterLine, nextIsLine, goodLines, linesRead, sameBytes, sizeRight, headed, rowLines, readAs}
+use Rattle.text.specs.Grammar.{All, Row, Line, Lines, Text, alone, rows, rowOf, rowsAs}
 use Rattle.text.proofs.GrammarLines.{line-sound, line-complete}
-use Rattle.text.proofs.GrammarText.{noCr, all-test, first-ends, only-ends, RowsThere, lines-complete}
+use Rattle.text.proofs.GrammarText.{noCr, first-ends, only-ends, RowsThere, lines-complete}
 use Rattle.text.proofs.SameLaws.{same-equal, same-refl}
 use Rattle.text.proofs.TextLaws.{size-right}
 use Rattle.text.proofs.GrammarSound.{split, lines-sound}
 
 -- what an answer of so many rows says
-pub record Accepted (s : List ℕ) (n : ℕ) : Type 0 where
+pub record Accepted (h : List ℕ) (ks : List Column) (s : List ℕ) (n : ℕ) : Type 0 where
   pub size : sizeRight s ≡ true
-  pub headed-is : headed s ≡ true
-  pub head : take (lineLength s) s ≡ header
-  pub good : goodLines (rowLines s) ≡ length (rowLines s)
+  pub headed-is : headed h s ≡ true
+  pub head : take (lineLength s) s ≡ h
+  pub good : goodLines ks (rowLines s) ≡ length (rowLines s)
   pub count : length (rowLines s) ≡ n
 
-lines-accepted : (ls : List (List ℕ)) (n : ℕ) → linesRead 2 ls ≡ Rows n → (goodLines ls ≡ length ls) × (length ls ≡ n)
+lines-accepted : (ks : List Column) (k : ℕ) (ls : List (List ℕ)) (n : ℕ) → linesRead ks k ls ≡ Rows n → (goodLines ks ls ≡ length ls) × (length ls ≡ n)
 unfolding linesRead
-lines-accepted ls n =
+lines-accepted ks k ls n =
     ⊎-elim
-    (λ (p : eqb (goodLines ls) (length ls) ≡ true).
-    rw p (λ (e : Rows (goodLines ls) ≡ Rows n). let k = eqb-true (goodLines ls) (length ls) p in let m : goodLines ls ≡ n = cc in (k, omega arith)))
-    (λ (p : eqb (goodLines ls) (length ls) ≡ false).
-    rw p (λ (e : BadLine (2 + goodLines ls) ≡ Rows n). absurd (let z : _≡_ {A = ℕ} 0 1 = cc in omega arith)))
-    (passes-or-fails (eqb (goodLines ls) (length ls)))
+    (λ (p : eqb (goodLines ks ls) (length ls) ≡ true).
+    rw p (λ (e : Rows (goodLines ks ls) ≡ Rows n). let q = eqb-true (goodLines ks ls) (length ls) p in let m : goodLines ks ls ≡ n = cc in (q, omega arith)))
+    (λ (p : eqb (goodLines ks ls) (length ls) ≡ false). rw p (λ (e : BadLine (k + goodLines ks ls) ≡ Rows n). clash (cc)))
+    (passes-or-fails (eqb (goodLines ks ls) (length ls)))
 
-pub accepted : (s : List ℕ) (n : ℕ) → reading s ≡ Rows n → Accepted s n
-unfolding reading headed
-accepted s n =
-    ⊎-elim
-    (λ (p : sizeRight s ≡ true).
-    ⊎-elim
-    (λ (q : same (take (lineLength s) s) header ≡ true).
-    rw (p, q)
-    (λ e.
-    let a = lines-accepted (rowLines s) n e in
-    record { size = p; headed-is = q; head = same-equal (take (lineLength s) s) header q; good = a .0; count = a .1 }))
-    (λ (q : same (take (lineLength s) s) header ≡ false).
-    rw (p, q) (λ (e : BadLine 1 ≡ Rows n). absurd (let z : _≡_ {A = ℕ} 0 1 = cc in omega arith)))
-    (passes-or-fails (same (take (lineLength s) s) header)))
-    (λ (p : sizeRight s ≡ false).
-    rw p (λ (e : BadLine 0 ≡ Rows n). absurd (let z : _≡_ {A = ℕ} 0 1 = cc in omega arith)))
-    (passes-or-fails (sizeRight s))
+module _ (h : List ℕ) (ks : List Column) (k : ℕ) (s : List ℕ) where
+  pub accepted : (n : ℕ) → readAs h ks k s ≡ Rows n → Accepted h ks s n
+  unfolding readAs headed
+  accepted n =
+      ⊎-elim
+      (λ (p : sizeRight s ≡ true).
+      ⊎-elim
+      (λ (q : sameBytes (take (lineLength s) s) h ≡ true).
+      rw (p, q)
+      (λ e.
+      let a = lines-accepted ks (k + 1) (rowLines s) n e in
+      record { size = p; headed-is = q; head = same-equal (take (lineLength s) s) h q; good = a .0; count = a .1 }))
+      (λ (q : sameBytes (take (lineLength s) s) h ≡ false). rw (p, q) (λ (e : BadLine k ≡ Rows n). clash (cc)))
+      (passes-or-fails (sameBytes (take (lineLength s) s) h)))
+      (λ (p : sizeRight s ≡ false). rw p (λ (e : BadLine 0 ≡ Rows n). clash (cc)))
+      (passes-or-fails (sizeRight s))
 
--- Whatever the reading accepts is a text of the grammar, with as many rows as it says.
-pub text-sound : (s : List ℕ) (n : ℕ) → reading s ≡ Rows n → Text s (rowsOf s) × (length (rowsOf s) ≡ n)
-unfolding rowsOf rowLines lines
-text-sound s n h = (whole (split s), length-map (lines (afterLine s)) rowOf ∙ a .count)
-  where
-    a : Accepted s n
-    a = accepted s n h
+  -- Whatever the reading accepts is a text of the grammar, with as many rows as it says.
+  pub text-sound : (n : ℕ) → readAs h ks k s ≡ Rows n → Text h ks s (rowsAs ks s) × (length (rowsAs ks s) ≡ n)
+  unfolding rowsAs rowLines lines
+  text-sound n e = (whole (split s), length-map (lines (afterLine s)) (rowOf ks) ∙ a .count)
+    where
+      a : Accepted h ks s n
+      a = accepted n e
 
-    below : Lines (afterLine s) (map rowOf (lines (afterLine s)))
-    below = lines-sound (length (afterLine s)) (afterLine s) (le-refl (length (afterLine s))) (a .good)
+      below : Lines ks (afterLine s) (map (rowOf ks) (lines (afterLine s)))
+      below = lines-sound ks (length (afterLine s)) (afterLine s) (le-refl (length (afterLine s))) (a .good)
 
-    whole : (s ≡ take (lineLength s) s ++ 13 ∷ 10 ∷ afterLine s) ⊎ ((s ≡ take (lineLength s) s) × (afterLine s ≡ [])) → Text s (map rowOf (lines (afterLine s)))
-    whole =
-        ⊎-elim
-        (λ (e : s ≡ take (lineLength s) s ++ 13 ∷ 10 ∷ afterLine s).
-        subst (λ (x : List ℕ). Text x (map rowOf (lines (afterLine s)))) (sym (e ∙ ap (λ (x : List ℕ). x ++ 13 ∷ 10 ∷ afterLine s) (a .head))) (rows below))
-        (λ (e : (s ≡ take (lineLength s) s) × (afterLine s ≡ [])).
-        subst (λ (x : List ℕ). Text x (map rowOf (lines (afterLine s)))) (sym (e .0 ∙ a .head))
-        (subst (λ (x : List ℕ). Text header (map rowOf (lines x))) (sym (e .1)) alone))
-
-header-no-cr : All noCr header
-unfolding header
-header-no-cr = all-test noCr header refl
+      whole :
+          (s ≡ take (lineLength s) s ++ 13 ∷ 10 ∷ afterLine s) ⊎ ((s ≡ take (lineLength s) s) × (afterLine s ≡ [])) →
+          Text h ks s (map (rowOf ks) (lines (afterLine s)))
+      whole =
+          ⊎-elim
+          (λ (e : s ≡ take (lineLength s) s ++ 13 ∷ 10 ∷ afterLine s).
+          subst (λ (x : List ℕ). Text h ks x (map (rowOf ks) (lines (afterLine s))))
+          (sym (e ∙ ap (λ (x : List ℕ). x ++ 13 ∷ 10 ∷ afterLine s) (a .head))) (rows below))
+          (λ (e : (s ≡ take (lineLength s) s) × (afterLine s ≡ [])).
+          subst (λ (x : List ℕ). Text h ks x (map (rowOf ks) (lines (afterLine s)))) (sym (e .0 ∙ a .head))
+          (subst (λ (x : List ℕ). Text h ks h (map (rowOf ks) (lines x))) (sym (e .1)) alone))
 
 -- a text of that first line, with these rows behind it
 accepts :
-    (s rest : List ℕ) (rs : List Row) → length s ≤ textMost → take (lineLength s) s ≡ header → afterLine s ≡ rest → RowsThere (lines rest) rs →
-    (reading s ≡ Rows (length rs)) × (rowsOf s ≡ rs)
-unfolding reading headed rowLines linesRead rowsOf
-accepts s rest rs k e f t =
-    let n : length (lines rest) ≡ length rs = sym (length-map (lines rest) rowOf) ∙ ap length (t .are) in
-    (rw (size-right s k, e, same-refl header, f, t .good, eq-eqb (length (lines rest)) (length (lines rest)) refl, n), rw f (t .are))
+    (h : List ℕ) (ks : List Column) (k : ℕ) (s rest : List ℕ) (rs : List Row) → length s ≤ textMost → take (lineLength s) s ≡ h → afterLine s ≡ rest →
+    RowsThere ks (lines rest) rs → (readAs h ks k s ≡ Rows (length rs)) × (rowsAs ks s ≡ rs)
+unfolding readAs headed rowLines linesRead rowsAs
+accepts h ks k s rest rs l e f t =
+    let n : length (lines rest) ≡ length rs = sym (length-map (lines rest) (rowOf ks)) ∙ ap length (t .are) in
+    (rw (size-right s l, e, same-refl h, f, t .good, eq-eqb (length (lines rest)) (length (lines rest)) refl, n), rw f (t .are))
 
--- Every text of the grammar that is not too long is accepted, and its rows are the grammar's.
-pub text-complete : (s : List ℕ) (rs : List Row) → length s ≤ textMost → Text s rs → (reading s ≡ Rows (length rs)) × (rowsOf s ≡ rs)
+-- Every text of the grammar that is not too long is accepted, and its rows are the grammar's, where the header is one line.
+pub text-complete :
+    (h : List ℕ) (ks : List Column) (k : ℕ) (s : List ℕ) (rs : List Row) → All noCr h → length s ≤ textMost → Text h ks s rs →
+    (readAs h ks k s ≡ Rows (length rs)) × (rowsAs ks s ≡ rs)
 unfolding afterLine
-text-complete s rs k alone =
-    let e = only-ends header header-no-cr in
-    let o : length header ≤ lineLength header + 2 = omega arith in
-    accepts header [] [] k (rw e (take-length header)) (drop-of-length-le header o) (lines-complete Lines.none)
-text-complete s rs k (rows {s = t} h) =
-    let e = first-ends header t header-no-cr in
-    accepts (header ++ 13 ∷ 10 ∷ t) t rs k (rw e (take-append-seam header (13 ∷ 10 ∷ t))) (rw e (drop-append-add header (13 ∷ 10 ∷ t) 2)) (lines-complete h)
+text-complete h ks k s rs one l alone =
+    let e = only-ends h one in
+    let o : length h ≤ lineLength h + 2 = omega arith in
+    accepts h ks k h [] [] l (rw e (take-length h)) (drop-of-length-le h o) (lines-complete Lines.none)
+text-complete h ks k s rs one l (rows {s = t} r) =
+    let e = first-ends h t one in
+    accepts h ks k (h ++ 13 ∷ 10 ∷ t) t rs l (rw e (take-append-seam h (13 ∷ 10 ∷ t))) (rw e (drop-append-add h (13 ∷ 10 ∷ t) 2)) (lines-complete r)
 
 -- A bad line behind the header that is named is the first that is none: those before it are lines, and it is not.
-pub record FirstBad (s : List ℕ) (j : ℕ) : Type 0 where
+pub record FirstBad (ks : List Column) (s : List ℕ) (j : ℕ) : Type 0 where
   pub inside : j < length (rowLines s)
-  pub before : (i : ℕ) → i < j → Line (getD (rowLines s) i []) (rowOf (getD (rowLines s) i []))
-  pub bad : (r : Row) → Line (getD (rowLines s) j []) r → ⊥
+  pub before : (i : ℕ) → i < j → Line ks (getD (rowLines s) i []) (rowOf ks (getD (rowLines s) i []))
+  pub bad : (r : Row) → Line ks (getD (rowLines s) j []) r → ⊥
 
-line-at : (ls : List (List ℕ)) (i : ℕ) → nextIsLine (drop i ls) ≡ isLine (getD ls i [])
+line-at : (ks : List Column) (ls : List (List ℕ)) (i : ℕ) → nextIsLine ks (drop i ls) ≡ isLine ks (getD ls i [])
 unfolding nextIsLine
-line-at ls i = rw (getD-drop i ls 0 [], add-zero i)
+line-at ks ls i = rw (getD-drop i ls 0 [], add-zero i)
 
-first-bad : (s : List ℕ) (j : ℕ) → goodLines (rowLines s) ≡ j → (goodLines (rowLines s) ≡ length (rowLines s) → ⊥) → FirstBad s j
+first-bad :
+    (ks : List Column) (s : List ℕ) (j : ℕ) → goodLines ks (rowLines s) ≡ j → (goodLines ks (rowLines s) ≡ length (rowLines s) → ⊥) → FirstBad ks s j
 unfolding goodLines
-first-bad s j e n =
-    let k = run-length nextIsLine [] (rowLines s) in
-    let l : run nextIsLine (rowLines s) < length (rowLines s) = omega (arith, n, k) in
+first-bad ks s j e n =
+    let q = run-length (nextIsLine ks) [] (rowLines s) in
+    let l : run (nextIsLine ks) (rowLines s) < length (rowLines s) = omega (arith, n, q) in
     record {
       inside = omega arith;
       before =
           λ i h.
-          line-sound (getD (rowLines s) i [])
-          (sym (line-at (rowLines s) i) ∙ run-at nextIsLine [] (rowLines s) i (omega arith));
+          line-sound ks (getD (rowLines s) i [])
+          (sym (line-at ks (rowLines s) i) ∙ run-at (nextIsLine ks) [] (rowLines s) i (omega arith));
       bad =
           λ r h.
           not-both (line-complete h .good)
-          (sym (line-at (rowLines s) j) ∙ rw (← e) (run-end nextIsLine [] (rowLines s) l));
+          (sym (line-at ks (rowLines s) j) ∙ rw (← e) (run-end (nextIsLine ks) [] (rowLines s) l));
     }
 
-bad-lines : (s : List ℕ) (j : ℕ) → linesRead 2 (rowLines s) ≡ BadLine (2 + j) → FirstBad s j
+bad-lines : (ks : List Column) (k : ℕ) (s : List ℕ) (j : ℕ) → linesRead ks k (rowLines s) ≡ BadLine (k + j) → FirstBad ks s j
 unfolding linesRead
-bad-lines s j =
+bad-lines ks k s j =
     ⊎-elim
-    (λ (p : eqb (goodLines (rowLines s)) (length (rowLines s)) ≡ true).
-    rw p (λ (e : Rows (goodLines (rowLines s)) ≡ BadLine (2 + j)). absurd (let z : _≡_ {A = ℕ} 0 1 = cc in omega arith)))
-    (λ (p : eqb (goodLines (rowLines s)) (length (rowLines s)) ≡ false).
+    (λ (p : eqb (goodLines ks (rowLines s)) (length (rowLines s)) ≡ true).
+    rw p (λ (e : Rows (goodLines ks (rowLines s)) ≡ BadLine (k + j)). clash (cc)))
+    (λ (p : eqb (goodLines ks (rowLines s)) (length (rowLines s)) ≡ false).
     rw p
-    (λ (e : BadLine (2 + goodLines (rowLines s)) ≡ BadLine (2 + j)).
-    let z : 2 + goodLines (rowLines s) ≡ 2 + j = cc in
-    first-bad s j (omega arith) (eqb-false (goodLines (rowLines s)) (length (rowLines s)) p)))
-    (passes-or-fails (eqb (goodLines (rowLines s)) (length (rowLines s))))
+    (λ (e : BadLine (k + goodLines ks (rowLines s)) ≡ BadLine (k + j)).
+    let z : k + goodLines ks (rowLines s) ≡ k + j = cc in
+    first-bad ks s j (omega arith) (eqb-false (goodLines ks (rowLines s)) (length (rowLines s)) p)))
+    (passes-or-fails (eqb (goodLines ks (rowLines s)) (length (rowLines s))))
 
-pub bad-line : (s : List ℕ) (j : ℕ) → reading s ≡ BadLine (2 + j) → FirstBad s j
-unfolding reading
-bad-line s j =
+pub bad-line : (h : List ℕ) (ks : List Column) (k : ℕ) (s : List ℕ) (j : ℕ) → readAs h ks k s ≡ BadLine (k + 1 + j) → FirstBad ks s j
+unfolding readAs
+bad-line h ks k s j =
     ⊎-elim
     (λ (p : sizeRight s ≡ true).
     ⊎-elim
-    (λ (q : headed s ≡ true). rw (p, q) (bad-lines s j))
-    (λ (q : headed s ≡ false).
-    rw (p, q) (λ (e : BadLine 1 ≡ BadLine (2 + j)). absurd (let z : 1 ≡ 2 + j = cc in omega arith)))
-    (passes-or-fails (headed s)))
+    (λ (q : headed h s ≡ true). rw (p, q) (bad-lines ks (k + 1) s j))
+    (λ (q : headed h s ≡ false).
+    rw (p, q) (λ (e : BadLine k ≡ BadLine (k + 1 + j)). absurd (let z : k ≡ k + 1 + j = cc in omega arith)))
+    (passes-or-fails (headed h s)))
     (λ (p : sizeRight s ≡ false).
-    rw p (λ (e : BadLine 0 ≡ BadLine (2 + j)). absurd (let z : 0 ≡ 2 + j = cc in omega arith)))
+    rw p (λ (e : BadLine 0 ≡ BadLine (k + 1 + j)). absurd (let z : 0 ≡ k + 1 + j = cc in omega arith)))
     (passes-or-fails (sizeRight s))

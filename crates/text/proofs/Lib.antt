@@ -1,5 +1,8 @@
 pub mod BlockLaws
+pub mod ColumnLaws
+pub mod CutLaws
 pub mod ExampleLaws
+pub mod FillLaws
 pub mod GrammarLines
 pub mod GrammarNames
 pub mod GrammarNumbers
@@ -8,8 +11,8 @@ pub mod GrammarRuns
 pub mod GrammarSound
 pub mod GrammarText
 pub mod GrammarTheorem
-pub mod HeaderLaws
 pub mod LineLaws
+pub mod PlaceLaws
 pub mod RowAtLaws
 pub mod SameLaws
 pub mod TextLaws

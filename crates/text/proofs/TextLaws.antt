@@ -1,17 +1,20 @@
--- A whole text: its size, its header, its rows. Assumes nothing.
-use mathlib.Core.Path.{_≡_, _∙_}
+-- What is left of a text at a cursor: its size, its header, its rows.
+use mathlib.Core.Path.{_≡_, refl, ap, _∙_}
 use mathlib.Core.Bool.{Bool, true, false}
 use mathlib.Core.List.{List}
-use Prim.Native.Nat.{ℕ, _+_, _≤_, _<_}
-use native.Mathlib.Nat.{zero-add}
+use Prim.Native.Nat.{ℕ, _+_, _-_, _≤_, _<_}
+use native.Mathlib.Nat.{add-sub-cancel-left}
+use native.Mathlib.Omega.{arith}
 use lib.ListN.{length, take, drop}
+use lib.Seq.{drop-drop}
 use borrow.Author.Tests.{le-leb, lt-leb}
 use Rattle.cursor.specs.declared.Cursor.{Cursor}
-use Rattle.line.specs.Line.{fieldCount}
+use Rattle.cursor.specs.Pieces.{moved, nextLine}
+use Rattle.text.specs.declared.Columns.{Columns}
 use Rattle.text.specs.declared.Reading.{Reading}
 use Rattle.text.specs.declared.Reading.the-variants.{BadLine}
-use Rattle.text.specs.Header.{header}
-use Rattle.text.specs.Text.{textMost, lines, lineLength, afterLine, same, sizeRight, headed, rowLines, reading, rowsRead, rowNumbers, rowPlaces, roomFor, LinesTaken, TextTaken}
+use Rattle.text.specs.Line.{columnsOf, numberCount, placeCount}
+use Rattle.text.specs.Text.{textMost, lines, lineLength, afterLine, sameBytes, sizeRight, headed, rowLines, readAs, rowsReadAs, numbersAs, placesAs, LinesTaken, TextTaken}
 use Rattle.text.proofs.BlockLaws.{kept-start}
 
 pub size-right : (s : List ℕ) → length s ≤ textMost → sizeRight s ≡ true
@@ -22,39 +25,51 @@ pub size-wrong : (s : List ℕ) → textMost < length s → sizeRight s ≡ fals
 unfolding sizeRight
 size-wrong s h = lt-leb (length s) textMost h
 
-module _ (s list names : List ℕ) where
+module _ (h : List ℕ) (b : Columns) (i k : ℕ) (s numbers names : List ℕ) where
   -- where no row is read, the buffers stay
-  untouched : (r : Reading) → r ≡ reading s → rowsRead s ≡ 0 → TextTaken s list names list names r
+  untouched : (r : Reading) → r ≡ readAs h (columnsOf b) k s → rowsReadAs h (columnsOf b) s ≡ 0 → TextTaken h b i k s numbers names numbers names r
   untouched r e z =
       record {
         answer = e;
-        numbers = rw z (kept-start (roomFor (length list) (length names)) fieldCount (rowNumbers s) list);
-        places = rw z (kept-start (roomFor (length list) (length names)) 2 (rowPlaces s) names);
+        taken = record { numbers-are = rw z (kept-start _ (numberCount b) _ numbers); names-are = rw z (kept-start _ (placeCount b) _ names) };
       }
 
-  pub text-long : textMost < length s → TextTaken s list names list names (BadLine 0)
-  unfolding reading rowsRead
-  text-long h = untouched (BadLine 0) (rw (size-wrong s h)) (rw (size-wrong s h))
+  pub text-long : textMost < length s → TextTaken h b i k s numbers names numbers names (BadLine 0)
+  unfolding readAs rowsReadAs
+  text-long l = untouched (BadLine 0) (rw (size-wrong s l)) (rw (size-wrong s l))
 
-  pub text-unheaded : length s ≤ textMost → headed s ≡ false → TextTaken s list names list names (BadLine 1)
-  unfolding reading rowsRead
-  text-unheaded h k = untouched (BadLine 1) (rw (size-right s h, k)) (rw (size-right s h, k))
+  pub text-unheaded : length s ≤ textMost → headed h s ≡ false → TextTaken h b i k s numbers names numbers names (BadLine k)
+  unfolding readAs rowsReadAs
+  text-unheaded l u = untouched (BadLine k) (rw (size-right s l, u)) (rw (size-right s l, u))
+
+  rows-of :
+      (numbers′ names′ : List ℕ) (r : Reading) → length s ≤ textMost → headed h s ≡ true →
+      LinesTaken b (i + lineLength s + 2) (k + 1) (lines (afterLine s)) numbers names numbers′ names′ r →
+      TextTaken h b i k s numbers names numbers′ names′ r
+  unfolding readAs rowsReadAs numbersAs placesAs rowLines
+  rows-of numbers′ names′ r l u t =
+      let z = size-right s l in
+      record {
+        answer = rw (z, u) (t .answer);
+        taken = record { numbers-are = rw (z, u) (t .taken .numbers-are); names-are = rw (z, u) (t .taken .names-are) };
+      }
+
+-- what the cursors say of a text at the cursor c, p standing behind its first line and d at the next
+module _ (h : List ℕ) (b : Columns) (text : List ℕ) (c p : Cursor) (past : p ≡ moved c (lineLength (drop (c .at) text))) where
+  pub headed-is : (r : Bool) → r ≡ sameBytes (take (p .at - c .at) (drop (c .at) text)) h → r ≡ headed h (drop (c .at) text)
+  unfolding headed
+  headed-is r e =
+      let n : p .at - c .at ≡ lineLength (drop (c .at) text) = rw past (add-sub-cancel-left (c .at) (lineLength (drop (c .at) text))) in
+      rw n at e
 
   pub text-rows :
-      (list′ names′ : List ℕ) (r : Reading) (from : Cursor) → length s ≤ textMost → headed s ≡ true → from .at ≡ lineLength s + 2 → from .line ≡ 2 →
-      LinesTaken (from .at) (from .line) (lines (drop (from .at) s)) list names list′ names′ r → TextTaken s list names list′ names′ r
-  unfolding reading rowsRead rowNumbers rowPlaces rowLines afterLine
-  text-rows list′ names′ r from h k p q t =
-      let z = size-right s h in
-      record {
-        answer = rw (z, k, ← p, ← q) (t .answer);
-        numbers = rw (z, k, ← p) (t .numbers);
-        places = rw (z, k, ← p) (t .places);
-      }
-
--- the first line ends where the cursor stands that was moved over it
-pub headed-is : (s : List ℕ) (p : Cursor) (r : Bool) → p .at ≡ 0 + lineLength s → r ≡ same (take (p .at) s) header → r ≡ headed s
-unfolding headed
-headed-is s p r e h =
-    let k : p .at ≡ lineLength s = e ∙ zero-add (lineLength s) in
-    rw k at h
+      (numbers names numbers′ names′ : List ℕ) (r : Reading) (d : Cursor) → d ≡ nextLine p → length (drop (c .at) text) ≤ textMost →
+      headed h (drop (c .at) text) ≡ true →
+      LinesTaken b (d .at) (d .line) (lines (drop (d .at) text)) numbers names numbers′ names′ r →
+      TextTaken h b (c .at) (c .line) (drop (c .at) text) numbers names numbers′ names′ r
+  unfolding afterLine
+  text-rows numbers names numbers′ names′ r d next l u t =
+      let n = lineLength (drop (c .at) text) in
+      let z : c .at + (n + 2) ≡ c .at + n + 2 = omega arith in
+      let e : drop (n + 2) (drop (c .at) text) ≡ drop (c .at + n + 2) text = drop-drop (n + 2) (c .at) text ∙ ap (λ (j : ℕ). drop j text) z in
+      rows-of h b (c .at) (c .line) (drop (c .at) text) numbers names numbers′ names′ r l u (rw e (rw (next, past) at t))

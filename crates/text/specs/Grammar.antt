@@ -1,15 +1,16 @@
 -- What a well-formed text is, said without a reader and without a cursor [01 §6]: which bytes make a number, a name, a line, a text,
--- and which rows they say. Definitions only.
+-- and which rows they say. A layout is a header and a list of columns. Definitions only.
 use mathlib.Core.Path.{_≡_}
 use mathlib.Core.Bool.{Bool, true}
 use mathlib.Core.Logic.{_⊎_}
 use mathlib.Core.List.{List, [], _∷_, _++_, map}
-use Prim.Native.Nat.{ℕ, zero, suc, _≤_}
-use lib.ListN.{length, getD, take, drop}
-use Rattle.alphabet.specs.Bytes.{digitByte, plainByte, bareByte}
+use Prim.Native.Nat.{ℕ, _≤_}
+use lib.ListN.{length, getD}
+use Rattle.cursor.specs.declared.Column.{Column}
+use Rattle.cursor.specs.declared.Column.the-variants.{Numbers, Names}
+use Rattle.cursor.specs.Bytes.{digitByte, plainByte, bareByte}
 use Rattle.cursor.specs.Pieces.{decimal, nameMost}
-use Rattle.line.specs.Line.{moreFields, numbersOf, nameStart, nameSize}
-use Rattle.text.specs.Header.{header}
+use Rattle.text.specs.Line.{numbersOf, namesOf}
 use Rattle.text.specs.Text.{rowLines}
 
 -- every byte passes the test
@@ -42,35 +43,45 @@ pub record IsNameText (w : List ℕ) : Type 0 where
   pub most : length w ≤ nameMost
   pub form : Form w
 
--- k fields, each behind a comma
-pub data Fields : ℕ → List ℕ → List ℕ → Type 0 where
-  none : Fields zero [] []
-  more : {k n : ℕ} {w l ns : List ℕ} → IsNumber w n → Fields k l ns → Fields (suc k) (44 ∷ w ++ l) (n ∷ ns)
-
--- a row: its numbers in their order, and its name as it stands
+-- a row: its numbers in their order, and its names as they stand
 pub record Row : Type 0 where
   pub numbers : List ℕ
-  pub name : List ℕ
+  pub names : List (List ℕ)
 
-pub data Line : List ℕ → Row → Type 0 where
-  line :
-      {n : ℕ} {w v l ns : List ℕ} → IsNumber w n → IsNameText v → Fields moreFields l ns →
-      Line (w ++ (44 ∷ v ++ l)) (record { numbers = n ∷ ns; name = v })
+-- a cell for each column, each behind a comma
+pub data Cells : List Column → List ℕ → Row → Type 0 where
+  none : Cells [] [] (record { numbers = []; names = [] })
+  number :
+      {ks : List Column} {n : ℕ} {w l ns : List ℕ} {vs : List (List ℕ)} → IsNumber w n → Cells ks l (record { numbers = ns; names = vs }) →
+      Cells (Numbers ∷ ks) (44 ∷ w ++ l) (record { numbers = n ∷ ns; names = vs })
+  name :
+      {ks : List Column} {w l ns : List ℕ} {vs : List (List ℕ)} → IsNameText w → Cells ks l (record { numbers = ns; names = vs }) →
+      Cells (Names ∷ ks) (44 ∷ w ++ l) (record { numbers = ns; names = w ∷ vs })
+
+-- a line is its cells without the first comma
+abbrev pub Line : List Column → List ℕ → Row → Type 0
+Line ks l r = Cells ks (44 ∷ l) r
 
 -- lines with CRLF between, the last CRLF optional
-pub data Lines : List ℕ → List Row → Type 0 where
-  none : Lines [] []
-  last : {l : List ℕ} {r : Row} → Line l r → Lines l (r ∷ [])
-  more : {l s : List ℕ} {r : Row} {rs : List Row} → Line l r → Lines s rs → Lines (l ++ 13 ∷ 10 ∷ s) (r ∷ rs)
+pub data Lines : List Column → List ℕ → List Row → Type 0 where
+  none : {ks : List Column} → Lines ks [] []
+  last : {ks : List Column} {l : List ℕ} {r : Row} → Line ks l r → Lines ks l (r ∷ [])
+  more :
+      {ks : List Column} {l s : List ℕ} {r : Row} {rs : List Row} → Line ks l r → Lines ks s rs →
+      Lines ks (l ++ 13 ∷ 10 ∷ s) (r ∷ rs)
 
 -- the header, and behind its CRLF the rows
-pub data Text : List ℕ → List Row → Type 0 where
-  alone : Text header []
-  rows : {s : List ℕ} {rs : List Row} → Lines s rs → Text (header ++ 13 ∷ 10 ∷ s) rs
+pub data Text : List ℕ → List Column → List ℕ → List Row → Type 0 where
+  alone : {h : List ℕ} {ks : List Column} → Text h ks h []
+  rows : {h s : List ℕ} {ks : List Column} {rs : List Row} → Lines ks s rs → Text h ks (h ++ 13 ∷ 10 ∷ s) rs
 
--- the row that the reader finds in a line, and the rows that it finds in a text
-unfoldable pub rowOf : List ℕ → Row
-rowOf l = record { numbers = numbersOf l; name = take (nameSize l) (drop (nameStart l) l) }
+-- the row that the reader finds in a line, the rows that it finds in a text, and all names of rows
+unfoldable pub rowOf : List Column → List ℕ → Row
+rowOf ks l = record { numbers = numbersOf ks l; names = namesOf ks l }
 
-unfoldable pub rowsOf : List ℕ → List Row
-rowsOf s = map rowOf (rowLines s)
+unfoldable pub rowsAs : List Column → List ℕ → List Row
+rowsAs ks s = map (rowOf ks) (rowLines s)
+
+unfoldable pub allNames : List Row → List (List ℕ)
+allNames [] = []
+allNames (r ∷ rs) = r .names ++ allNames rs

@@ -1,3 +1,3 @@
 pub mod Grammar
-pub mod Header
+pub mod Line
 pub mod Text

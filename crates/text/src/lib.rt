@@ -1,21 +1,34 @@
-// Reading the text of a list [01 §6].
-use alphabet::Class;
-use blocks::put;
-use check::same;
-use cursor::Cursor;
-use line::FIELDS;
-use line::RowRead;
-use line::row;
-ghost use mathlib.Core.Path.{_≡_};
-ghost use mathlib.Core.List.{[], _∷_};
-ghost use Prim.Native.Nat.{_+_, _*_, _<_, _≤_};
-ghost use lib.ListN.{length, drop};
-ghost use Rattle.line.specs.Line.{fieldCount};
-ghost use Rattle.text.specs.Header.{header};
-ghost use Rattle.text.specs.Text.{same, roomFor, keptIn, lines, LinesTaken, TextTaken};
+// Reading a text of lines under a header, each line of numbers with a name among them or none [01 §6].
+mod keep;
+mod layout;
+mod line;
 
-// A text has at most so many bytes.
-const TEXT_MOST: usize = 65536;
+use check::same;
+use cursor::Class;
+use cursor::Cursor;
+use keep::keep_row;
+use line::read_line;
+ghost use mathlib.Core.Path.{_≡_};
+ghost use Prim.Native.Nat.{_≤_};
+ghost use lib.ListN.{length, drop};
+ghost use Rattle.text.specs.Text.{lines, sameBytes, Ready, LinesTaken, TextTaken};
+
+// A line of at most so many numbers can be read.
+pub const NUMBERS_MOST: usize = 32;
+
+// The layout of a line: so many numbers, a name or none, so many numbers.
+pub struct Columns {
+    pub before: usize,
+    pub named: bool,
+    pub after: usize,
+}
+
+// A line read: its numbers, and its name's start and length, with zeros behind them. All 0 where the line is bad.
+pub struct LineRead {
+    pub good: bool,
+    pub numbers: [u64; NUMBERS_MOST],
+    pub place: [u64; 2],
+}
 
 // What reading a text gives: its first bad line, 0 where it is too long, or the number of its rows.
 pub enum Reading {
@@ -23,79 +36,63 @@ pub enum Reading {
     Rows(usize),
 }
 
-fn is_header(line: &[u8]) -> bool
-    ensures { λ r. ⌜ r ≡ same (now (line .entry)) header ⌝ }
-{
-    same(
-        line,
-        b"row,name,feeds_from,kind,volts,work,selfstart,return,far,clear,near,factor,low,high,step,device,floor,ceiling,backed",
-    )
-}
+// A text has at most so many bytes.
+const TEXT_MOST: usize = 65536;
 
-// For how many rows there is room.
-fn room_for(list: usize, names: usize) -> usize
-    ensures { λ r. ⌜ r ≡ roomFor list names ⌝ }
+// The lines from a cursor on, a row in each.
+pub fn read_rows(
+    text: &[u8],
+    from: Cursor,
+    columns: Columns,
+    numbers: &mut [u64],
+    names: &mut [u64],
+) -> Reading
+    requires { ⌜ Ready columns from ⌝ }
+    ensures { λ r. ⌜ LinesTaken columns (from .at) (from .line) (lines (drop (from .at) (now (text .entry)))) (now (numbers .entry)) (now (names .entry)) (now (numbers .exit)) (now (names .exit)) r ⌝ }
 {
-    let a = list / FIELDS;
-    let b = names / 2;
-    if a <= b { a } else { b }
-}
-
-// Keeps block n where n is below the room.
-fn keep(out: &mut [u64], room: usize, n: usize, block: &[u64])
-    requires { ⌜ room * length (now block) ≤ length (now out) ⌝ }
-    ensures { λ _. ⌜ now (out .exit) ≡ keptIn room n (now (block .entry)) (now (out .entry)) ⌝ }
-{
-    if n < room {
-        put(out, n * block.len(), block);
-    }
-}
-
-// Keeps row n: its numbers, and where its name stands.
-fn keep_row(list: &mut [u64], names: &mut [u64], room: usize, n: usize, row: RowRead)
-    requires { ⌜ (room * fieldCount ≤ length (now list)) × (room * 2 ≤ length (now names)) ⌝ }
-    ensures { λ _. ⌜ now (list .exit) ≡ keptIn room n (row .numbers) (now (list .entry)) ⌝ }
-    ensures { λ _. ⌜ now (names .exit) ≡ keptIn room n (row .name ∷ row .size ∷ []) (now (names .entry)) ⌝ }
-{
-    let numbers = row.numbers;
-    let place = [row.name as u64, row.size as u64];
-    keep(list, room, n, &numbers);
-    keep(names, room, n, &place);
-}
-
-// The lines from a cursor on.
-fn read_rows(text: &[u8], from: Cursor, list: &mut [u64], names: &mut [u64]) -> Reading
-    requires { ⌜ from .line ≤ 2 ⌝ }
-    ensures { λ r. ⌜ LinesTaken (from .at) (from .line) (lines (drop (from .at) (now (text .entry)))) (now (list .entry)) (now (names .entry)) (now (list .exit)) (now (names .exit)) r ⌝ }
-{
-    let room = room_for(list.len(), names.len());
     let mut c = from;
     let mut n = 0;
     while c.at < text.len() {
         let past = c.skip(Class::InLine, text);
         let end = past.at;
-        let read = row(c, &text[..end]);
+        let read = read_line(c, &text[..end], columns);
         if !read.good {
             return Reading::BadLine(c.line);
         }
-        keep_row(list, names, room, n, read);
+        keep_row(numbers, names, columns, n, read);
         c = past.next_line();
         n += 1;
     }
     Reading::Rows(n)
 }
 
-// The whole text: at most 65,536 bytes, the header, then a row in each line.
-pub fn read_text(text: &[u8], list: &mut [u64], names: &mut [u64]) -> Reading
-    ensures { λ r. ⌜ TextTaken (now (text .entry)) (now (list .entry)) (now (names .entry)) (now (list .exit)) (now (names .exit)) r ⌝ }
+fn is_header(line: &[u8], header: &[u8]) -> bool
+    ensures { λ r. ⌜ r ≡ sameBytes (now (line .entry)) (now (header .entry)) ⌝ }
 {
-    if TEXT_MOST < text.len() {
+    same(line, header)
+}
+
+// What is left of a text at a cursor: at most 65,536 bytes, the header, then a row in each line.
+pub fn read_text(
+    text: &[u8],
+    from: Cursor,
+    header: &[u8],
+    columns: Columns,
+    numbers: &mut [u64],
+    names: &mut [u64],
+) -> Reading
+    requires { ⌜ Ready columns from ⌝ }
+    requires { ⌜ from .at ≤ length (now text) ⌝ }
+    ensures { λ r. ⌜ TextTaken (now (header .entry)) columns (from .at) (from .line) (drop (from .at) (now (text .entry))) (now (numbers .entry)) (now (names .entry)) (now (numbers .exit)) (now (names .exit)) r ⌝ }
+{
+    let at = from.at;
+    if TEXT_MOST < text.len() - at {
         return Reading::BadLine(0);
     }
-    let past = (Cursor { at: 0, line: 1 }).skip(Class::InLine, text);
+    let past = from.skip(Class::InLine, text);
     let end = past.at;
-    if !is_header(&text[..end]) {
-        return Reading::BadLine(1);
+    if !is_header(&text[at..end], header) {
+        return Reading::BadLine(from.line);
     }
-    read_rows(text, past.next_line(), list, names)
+    read_rows(text, past.next_line(), columns, numbers, names)
 }

@@ -1,19 +1,18 @@
 -- `sheet::print_text` meets its contract: a bad line gives its refusal, and the rows read what `print_rows` prints.
 use borrow.Author.Needs.{needs}
 use mathlib.Core.Path.{sym, _∙_}
-use Rattle.text.specs.Text.{roomFor, rowsRead, rowNumbers, rowPlaces}
 use Rattle.sheet.proofs.SheetLaws.{bad-filled}
 use Rattle.sheet.proofs.print_text.Statement.{statement}
 use Rattle.sheet.proofs.print_text.Tie as tie
 
-slice-aggregate-read-text : tie.Need-slice-aggregate-read-text
-slice-aggregate-read-text c = search needs
+slice-aggregate-read-list : tie.Need-slice-aggregate-read-list
+slice-aggregate-read-list c = search needs
 
-slice-aggregate-read-text-2 : tie.Need-slice-aggregate-read-text-2
-slice-aggregate-read-text-2 c = search needs
+slice-aggregate-read-list-2 : tie.Need-slice-aggregate-read-list-2
+slice-aggregate-read-list-2 c = search needs
 
-read-text-requires : tie.Need-read-text-requires
-read-text-requires c κs = search needs
+read-list-requires : tie.Need-read-list-requires
+read-list-requires c κs = search needs
 
 enum-known-read : tie.Need-enum-known-read
 enum-known-read c = search needs
@@ -34,15 +33,14 @@ slice-aggregate-print-rows-2 : tie.Need-slice-aggregate-print-rows-2
 slice-aggregate-print-rows-2 c = search needs
 
 print-rows-requires : tie.Need-print-rows-requires
-unfolding roomFor rowsRead rowNumbers rowPlaces
 print-rows-requires c κs =
     let known = c .before .before .before .before in
     let read = known .before .before .before .before in
-    let t = read .read-text .ensures in
+    let t = read .read-list .ensures in
     record {
       read = sym (t .answer) ∙ known .read2 .given .1;
-      list-room = read .read-text .kept .1 .0;
-      names-room = read .read-text .kept .1 .1 .0;
+      list-room = read .read-list .kept .1 .0;
+      names-room = read .read-list .kept .1 .1 .0;
       before-list = _;
       before-names = _;
       numbers = t .numbers;
@@ -58,7 +56,7 @@ returns c =
     let refused = c .before .before in
     let known = refused .before .before .before .before in
     let read = known .before .before .before .before in
-    bad-filled _ _ _ _ _ _ _ (sym (read .read-text .ensures .answer) ∙ known .read .given .1) (refused .before .before .numbers .ensures)
+    bad-filled _ _ _ _ _ _ _ (sym (read .read-list .ensures .answer) ∙ known .read .given .1) (refused .before .before .numbers .ensures)
     (refused .refuse .ensures)
 
 same-length-2 : tie.Need-same-length-2
@@ -71,9 +69,9 @@ pub print-text-spec : {M : Type 1} → statement M
 print-text-spec =
     tie.close
     (tie.spec
-    slice-aggregate-read-text
-    slice-aggregate-read-text-2
-    read-text-requires
+    slice-aggregate-read-list
+    slice-aggregate-read-list-2
+    read-list-requires
     enum-known-read
     numbers-requires
     refuse-requires

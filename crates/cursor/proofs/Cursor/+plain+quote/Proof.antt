@@ -16,7 +16,7 @@ use Rattle.cursor.proofs.Cursor.+plain+quote.Lts-plain as plain-lts
 use Rattle.cursor.proofs.Cursor.quote.Reads as quote
 use Rattle.cursor.proofs.Cursor.quote.Kinds as quote-kinds
 use Rattle.cursor.proofs.Cursor.+plain+quote.Lts-quote as quote-lts
-use Rattle.alphabet.proofs.plain_byte.Reads as plain-byte-reads
+use Rattle.cursor.proofs.alphabet.plain_byte.Reads as plain-byte-reads
 use Rattle.cursor.proofs.Cursor.+plain+quote.{statement}
 use Rattle.cursor.proofs.Cursor.+plain+quote.Tie.{close}
 

@@ -8,8 +8,8 @@ use lib.ListN.{length, drop}
 use denote.Ref.{now}
 use borrow.Author.Tests.{not-true, not-false}
 use borrow.Author.Needs.{needs}
-use Rattle.alphabet.specs.Bytes.{passes, run}
-use Rattle.alphabet.proofs.RunLaws.{run-more, run-stops, run-over}
+use Rattle.cursor.specs.Bytes.{passes, run}
+use Rattle.cursor.proofs.RunLaws.{run-more, run-stops, run-over}
 use Rattle.cursor.proofs.Cursor.skip.Statement.{statement}
 use Rattle.cursor.proofs.Cursor.skip.Tie as tie
 

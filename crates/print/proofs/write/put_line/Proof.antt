@@ -5,7 +5,8 @@ use native.Mathlib.Omega.{arith}
 use lib.ListN.{drop, length-append}
 use denote.Ref.{now}
 use borrow.Author.Needs.{needs}
-use Rattle.print.specs.Card.{cardCount, fieldsText, lineText, lineEnd}
+use Rattle.layout.specs.Counts.{columnCount}
+use Rattle.print.specs.Card.{fieldsText, lineText, lineEnd}
 use Rattle.print.proofs.FieldsLaws.{fields-short}
 use Rattle.print.proofs.WriteLaws.{wrote-then}
 use Rattle.print.proofs.write.put_line.Statement.{statement}
@@ -23,7 +24,7 @@ put-end-requires c κs =
     let at-put-block = at-put-fields .before .before .before .before in
     let start = at-put-block .before .before .before .before .before in
     let a = start .args in
-    let s = fields-short cardCount (drop (a .from) (now (a .card))) in
+    let s = fields-short columnCount (drop (a .from) (now (a .card))) in
     omega (
       arith,
       s,
@@ -45,8 +46,8 @@ returns c =
     let at-put-block = at-put-fields .before .before .before .before in
     let start = at-put-block .before .before .before .before .before in
     let a = start .args in
-    let f = fieldsText cardCount (drop (a .from) (now (a .card))) in
-    let s = fields-short cardCount (drop (a .from) (now (a .card))) in
+    let f = fieldsText columnCount (drop (a .from) (now (a .card))) in
+    let s = fields-short columnCount (drop (a .from) (now (a .card))) in
     let n = length-append (now (a .name)) f in
     wrote-then (now (a .out)) (a .at) (now (a .name) ++ f) _ (at-put-fields .put-fields .result) lineEnd _ _ (omega (arith, s, n, start .pre .0))
     (wrote-then (now (a .out)) (a .at) (now (a .name)) _ (at-put-block .put-block .result) f _ _ (omega (arith, s, start .pre .0))

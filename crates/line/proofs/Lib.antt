@@ -1,2 +1,0 @@
-pub mod FieldsLaws
-pub mod RowLaws

@@ -1,0 +1,3 @@
+pub mod ExampleLaws
+pub mod ListTheorem
+pub mod PlaceLaws

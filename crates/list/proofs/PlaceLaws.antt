@@ -1,0 +1,60 @@
+-- In the text of a list that was read whole the numbers fill 18 a row, and each row's name stands where its place says.
+use mathlib.Core.Path.{_≡_, refl, sym, ap, subst, _∙_}
+use mathlib.Core.Bool.{true}
+use mathlib.Core.List.{List, [], _∷_, map}
+use Prim.Native.Nat.{ℕ, _+_, _*_, _<_}
+use native.Mathlib.Nat.{zero-add}
+use native.Mathlib.Omega.{arith}
+use lib.ListN.{length, length-append}
+use Rattle.text.specs.declared.Reading.the-variants.{Rows}
+use Rattle.text.specs.Line.{numbersOf, placesOf, namesOf}
+use Rattle.text.specs.Grammar.{Row, rowOf, rowsAs, allNames}
+use Rattle.cursor.specs.Names.{namesAt}
+use Rattle.text.specs.Text.{lines, lineLength, afterLine, rowLines, rowsReadAs, allNumbers, allPlaces, numbersAs, placesAs}
+use Rattle.text.proofs.ColumnLaws.{numbers-long, places-long}
+use Rattle.text.proofs.GrammarTheorem.{Accepted, accepted}
+use Rattle.text.proofs.PlaceLaws.{Stand, PlaceInside, inside-at, names-stand}
+use Rattle.list.specs.Header.{header}
+use Rattle.layout.specs.Counts.{fieldCount}
+use Rattle.list.specs.List.{listColumns, reading, rowsOf, rowsRead, rowNumbers, rowPlaces}
+
+-- a line has 18 numbers and one place
+numbers-length : (ls : List (List ℕ)) → length (allNumbers listColumns ls) ≡ length ls * fieldCount
+unfolding allNumbers
+numbers-length [] = refl
+numbers-length (l ∷ ls) =
+    length-append (numbersOf listColumns l) (allNumbers listColumns ls) ∙
+    (let a = numbers-long (record { before = 1; named = true; after = 17 }) l in let b = numbers-length ls in omega arith)
+
+places-length : (i : ℕ) (ls : List (List ℕ)) → length (allPlaces listColumns i ls) ≡ length ls * 2
+unfolding allPlaces
+places-length i [] = refl
+places-length i (l ∷ ls) =
+    length-append (placesOf listColumns i l) (allPlaces listColumns (i + length l + 2) ls) ∙
+    (let a = places-long (record { before = 1; named = true; after = 17 }) i l in let b = places-length (i + length l + 2) ls in omega arith)
+
+-- the rows of a text that was read whole
+pub record RowsStand (s : List ℕ) (n : ℕ) : Type 0 where
+  pub read : rowsRead s ≡ n
+  pub numbers-long : length (rowNumbers s) ≡ n * fieldCount
+  pub places-long : length (rowPlaces s) ≡ n * 2
+  pub inside : (k : ℕ) → k < n → PlaceInside (length s) (rowPlaces s) k
+  pub names : namesAt s n (rowPlaces s) ≡ allNames (rowsOf s)
+
+pub rows-stand : (s : List ℕ) (n : ℕ) → reading s ≡ Rows n → RowsStand s n
+unfolding rowsReadAs numbersAs placesAs rowsAs rowLines afterLine
+rows-stand s n e =
+    let a = accepted header listColumns 1 s n e in
+    let z : lineLength s + 2 ≡ 0 + lineLength s + 2 = omega arith in
+    let t =
+    subst (λ (j : ℕ). Stand s (allPlaces listColumns j (rowLines s)) (allNames (rowsOf s))) z
+    (names-stand listColumns (length s) s (lineLength s + 2) (omega arith) (a .good)) in
+    let long = places-length (0 + lineLength s + 2) (rowLines s) in
+    let count : length (allNames (rowsOf s)) ≡ n = omega (arith, t .long, a .count) in
+    record {
+      read = rw (a .size, a .headed-is) (a .good ∙ a .count);
+      numbers-long = numbers-length (rowLines s) ∙ ap (λ (k : ℕ). k * fieldCount) (a .count);
+      places-long = long ∙ ap (λ (k : ℕ). k * 2) (a .count);
+      inside = λ k h. inside-at (length s) (rowPlaces s) k (t .inside) (omega (arith, a .count));
+      names = rw (← count) (t .are);
+    }
