@@ -18,7 +18,8 @@ use Rattle.cursor.specs.Pieces.{numberOf, nameLength, isComma, isCell, cellLeng
 use Rattle.cursor.proofs.FieldLaws.{lead, startOf, FieldWas, number-field, name-field, no-field}
 use Rattle.cursor.proofs.CellLaws.{NumberIs}
 use Rattle.text.specs.declared.Columns.{Columns}
-use Rattle.text.specs.Line.{columnsOf, numbersMost, Usable, isEnd, areCells, cellNumbers, cellPlaces, isLine, numbersOf, placesOf, padded, noLine, lineRead}
+use Rattle.text.specs.Line.{columnsOf, numbersMost, Usable, isEnd, areCells, cellNumbers}
+use Rattle.text.specs.Line.{cellPlaces, isLine, numbersOf, placesOf, padded, noLine, lineRead}
 use Rattle.text.proofs.ColumnLaws.{some-columns, cell-numbers-long, cell-places-long, counted}
 use Rattle.text.proofs.FillLaws.{Filled, filled-none, filled-done, filled-room, filled-more, filled-both}
 

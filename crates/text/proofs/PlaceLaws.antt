@@ -46,7 +46,9 @@ stand-none : (s : List ℕ) → Stand s [] []
 unfolding namesAt
 stand-none s = record { inside = tt; long = refl; are = refl }
 
-stand-one : (s : List ℕ) (a n : ℕ) (v : List ℕ) (ps : List ℕ) (vs : List (List ℕ)) → n ≤ nameMost → a + n ≤ length s → take n (drop a s) ≡ v → Stand s ps vs → Stand s (a ∷ n ∷ ps) (v ∷ vs)
+stand-one :
+    (s : List ℕ) (a n : ℕ) (v : List ℕ) (ps : List ℕ) (vs : List (List ℕ)) → n ≤ nameMost → a + n ≤ length s → take n (drop a s) ≡ v → Stand s ps vs →
+    Stand s (a ∷ n ∷ ps) (v ∷ vs)
 unfolding namesAt nameAtPlace
 stand-one s a n v ps vs short fits e h =
     record { inside = (short, fits, h .inside); long = omega (arith, h .long); are = ap₂ _∷_ e (h .are) }
@@ -56,7 +58,9 @@ inside-both size [] qs h k = k
 inside-both size (a ∷ []) qs h k = absurd h
 inside-both size (a ∷ n ∷ ps) qs h k = (h .0, h .1, inside-both size ps qs (h .2) k)
 
-names-both : (s : List ℕ) (vs : List (List ℕ)) (m : ℕ) (ps qs : List ℕ) → length ps ≡ length vs * 2 → namesAt s (length vs + m) (ps ++ qs) ≡ namesAt s (length vs) ps ++ namesAt s m qs
+names-both :
+    (s : List ℕ) (vs : List (List ℕ)) (m : ℕ) (ps qs : List ℕ) → length ps ≡ length vs * 2 →
+    namesAt s (length vs + m) (ps ++ qs) ≡ namesAt s (length vs) ps ++ namesAt s m qs
 unfolding namesAt nameAtPlace
 names-both s [] m [] qs h = rw (native.Mathlib.Nat.zero-add m)
 names-both s [] m (a ∷ ps) qs h = absurd (omega arith)
@@ -108,7 +112,9 @@ cells-stand (Names ∷ ks) s l e i fits h g =
     (cells-stand ks s (afterCell Names l) e (i + n + 1) fits (next-bytes s l e i n h)
     (and-right (isComma l && isName (drop 1 l)) (areCells ks (afterCell Names l)) g))
 
-line-stands : (ks : List Column) (s : List ℕ) (i : ℕ) → i < length s → isLine ks (lineAt s i) ≡ true → Stand s (placesOf ks i (lineAt s i)) (namesOf ks (lineAt s i))
+line-stands :
+    (ks : List Column) (s : List ℕ) (i : ℕ) → i < length s → isLine ks (lineAt s i) ≡ true →
+    Stand s (placesOf ks i (lineAt s i)) (namesOf ks (lineAt s i))
 unfolding isLine placesOf namesOf lineLength
 line-stands ks s i h g =
     let n = lineLength (drop i s) in
@@ -116,7 +122,9 @@ line-stands ks s i h g =
     let z : i + n - i ≡ n = omega arith in
     cells-stand ks s (44 ∷ lineAt s i) (i + n) i (omega (arith, r, length-drop i s)) (rw z) g
 
-over-stands : (ks : List Column) (s : List ℕ) (i : ℕ) → length s ≤ i → Stand s (allPlaces ks i (lines (drop i s))) (allNames (map (rowOf ks) (lines (drop i s))))
+over-stands :
+    (ks : List Column) (s : List ℕ) (i : ℕ) → length s ≤ i →
+    Stand s (allPlaces ks i (lines (drop i s))) (allNames (map (rowOf ks) (lines (drop i s))))
 unfolding lines allPlaces allNames
 over-stands ks s i h = rw (drop-of-length-le s h) (stand-none s)
 
