@@ -26,7 +26,7 @@ use Rattle.whole.specs.Whole.{whole}
 use Rattle.whole.proofs.AnswerLaws.{answered-size}
 use Rattle.sheet.specs.Ready.{RowsReady}
 use Rattle.sheet.specs.Sheet.{namesOf, blankCard, givenText, readText, sheetText, sheetMost, sheetPrinted}
-use Rattle.text.proofs.PlaceLaws.{PlaceInside}
+use Rattle.text.proofs.StandLaws.{PlaceInside}
 use Rattle.list.proofs.PlaceLaws.{RowsStand, rows-stand}
 
 -- bytes that are printed are printed by whatever name they have

@@ -7,7 +7,8 @@ use lib.ListN.{length}
 use denote.Ref.{now}
 use borrow.Author.Needs.{needs}
 use Rattle.text.specs.Line.{columnsOf}
-use Rattle.text.proofs.LineLaws.{ReadTo, read-none, Turn, turn-room, turn-number, turn-name, turn-none, line-over, line-done}
+use Rattle.text.proofs.LineLaws.{ReadTo, read-none}
+use Rattle.text.proofs.TurnLaws.{Turn, turn-room, turn-number, turn-name, turn-none, line-over, line-done}
 use Rattle.text.proofs.line.read_line.Statement.{statement}
 use Rattle.text.proofs.line.read_line.Tie as tie
 
