@@ -1,4 +1,4 @@
--- Tests of bytes met at the place i of a list. Assumes nothing.
+-- Tests of bytes met at the place i of a list.
 use mathlib.Core.Path.{_≡_, sym, ap}
 use mathlib.Core.Bool.{Bool, false, not, and-false}
 use mathlib.Core.List.{List}

@@ -60,7 +60,9 @@ pub name-is : (column : Column) (c d : Cursor) (l : List ℕ) (a n : ℕ) → Na
 unfolding cellAt numberAt isCell cellLength
 name-is Names c d l a n = by-test (isName l) refl
   where
-    by-test : (t : Bool) → isName l ≡ t → NameCell a n d ≡ cond t (NameCell (c .at) (nameLength l) (moved c (nameLength l))) NoCell → NameIs Names (c .at) l a n d
+    by-test :
+        (t : Bool) → isName l ≡ t → NameCell a n d ≡ cond t (NameCell (c .at) (nameLength l) (moved c (nameLength l))) NoCell →
+        NameIs Names (c .at) l a n d
     by-test true t e =
         let p : d ≡ moved c (nameLength l) = cc in
         record { is = refl; cell = record { is-cell = t; past = ap (λ (q : Cursor). q .at) p }; start = cc; size = cc }

@@ -1,4 +1,4 @@
--- The value of digits read from the left, and its bound: k digits make less than 10 to the k. Assumes nothing.
+-- The value of digits read from the left, and its bound: k digits make less than 10 to the k.
 use mathlib.Core.Path.{_≡_}
 use mathlib.Core.List.{List}
 use Prim.Native.Nat.{ℕ, suc, _+_, _-_, _*_, _^_, _≤_, _<_}

@@ -81,7 +81,8 @@ module _ (first : Bool) (column : Column) (s : List ℕ) (c d : Cursor) where
 -- a field is a cell behind a comma, the first cell's comma being the one put before it
 cell-of-field :
     (first : Bool) (column : Column) (s : List ℕ) (c : Cursor) (r : CellRead) → r ≡ fieldAt first column c (drop (c .at) s) →
-    ((isComma (lead first (drop (c .at) s)) ≡ true) × (r ≡ cellAt column (record { at = startOf first (c .at); line = c .line }) (drop 1 (lead first (drop (c .at) s))))) ⊎
+    ((isComma (lead first (drop (c .at) s)) ≡ true) ×
+    (r ≡ cellAt column (record { at = startOf first (c .at); line = c .line }) (drop 1 (lead first (drop (c .at) s))))) ⊎
     ((isComma (lead first (drop (c .at) s)) ≡ false) × (r ≡ NoCell))
 unfolding fieldAt isComma
 cell-of-field true column s c r e = inl (refl, e)
@@ -118,7 +119,9 @@ module _ (first : Bool) (column : Column) (s : List ℕ) (c : Cursor) where
       (λ w. clash (let q = w .1 in cc))
       (cell-of-field first column s c (NameCell a n d) e)
 
-  pub no-field : NoCell ≡ fieldAt first column c (drop (c .at) s) → (isComma (lead first (drop (c .at) s)) && isCell column (drop 1 (lead first (drop (c .at) s)))) ≡ false
+  pub no-field :
+      NoCell ≡ fieldAt first column c (drop (c .at) s) →
+      (isComma (lead first (drop (c .at) s)) && isCell column (drop 1 (lead first (drop (c .at) s)))) ≡ false
   no-field e =
       ⊎-elim
       (λ w. rw (w .0) (none-is column (record { at = startOf first (c .at); line = c .line }) (drop 1 (lead first (drop (c .at) s))) (w .1)))

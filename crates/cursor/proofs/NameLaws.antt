@@ -1,5 +1,4 @@
 -- A name read at the place i of the bytes w, how a name's place moves with its start, and what a name that was read says.
--- Assumes nothing.
 use mathlib.Core.Path.{_≡_, refl, sym}
 use mathlib.Core.Bool.{Bool, true, false, cond}
 use mathlib.Core.List.{List, [], _∷_}

@@ -1,4 +1,4 @@
--- A number read at the place i of the bytes s, its digits ending at `end`. Assumes nothing.
+-- A number read at the place i of the bytes s, its digits ending at `end`.
 use mathlib.Core.Path.{_≡_, ap}
 use mathlib.Core.Bool.{true, false, _&&_, and-false, or-true}
 use mathlib.Core.Logic.{_⊎_, ⊎-elim}

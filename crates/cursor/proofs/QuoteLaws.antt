@@ -1,4 +1,4 @@
--- The parts of a quoted name, met at the place i of the bytes s. Assumes nothing.
+-- The parts of a quoted name, met at the place i of the bytes s.
 use mathlib.Core.Path.{_≡_}
 use mathlib.Core.Bool.{true, false}
 use mathlib.Core.List.{List, _∷_}

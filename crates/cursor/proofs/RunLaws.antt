@@ -1,4 +1,4 @@
--- Laws of `run`, met at the place i of a list: a place that passes counts one, the first that does not ends it. Assumes nothing.
+-- Laws of `run`, met at the place i of a list: a place that passes counts one, the first that does not ends it.
 use mathlib.Core.Path.{_≡_, refl}
 use mathlib.Core.Bool.{Bool, true, false, cond}
 use mathlib.Core.List.{List, [], _∷_}

@@ -7,7 +7,8 @@ use Rattle.cursor.specs.Pieces.{digits, isNumber, plainPart, bareEnd, nameEnd, 
 use Rattle.text.specs.declared.Reading.the-variants.{Rows, BadLine}
 use Rattle.text.specs.Line.{columnsOf, isEnd, areCells, cellPlaces, isLine, placesOf}
 use Rattle.cursor.specs.Names.{nameAtPlace, namesAt}
-use Rattle.text.specs.Text.{onto, lines, lineLength, afterLine, sameBytes, sizeRight, headed, rowLines, nextIsLine, goodLines, linesRead, readAs, allPlaces, placesAs}
+use Rattle.text.specs.Text.{onto, lines, lineLength, afterLine, sameBytes, sizeRight, headed}
+use Rattle.text.specs.Text.{rowLines, nextIsLine, goodLines, linesRead, readAs, allPlaces, placesAs}
 use Rattle.list.specs.Header.{header}
 use Rattle.list.specs.List.{reading, rowPlaces}
 

@@ -13,7 +13,8 @@ use Rattle.cursor.specs.Names.{namesAt}
 use Rattle.text.specs.Text.{lines, lineLength, afterLine, rowLines, rowsReadAs, allNumbers, allPlaces, numbersAs, placesAs}
 use Rattle.text.proofs.ColumnLaws.{numbers-long, places-long}
 use Rattle.text.proofs.GrammarTheorem.{Accepted, accepted}
-use Rattle.text.proofs.PlaceLaws.{Stand, PlaceInside, inside-at, names-stand}
+use Rattle.text.proofs.PlaceLaws.{names-stand}
+use Rattle.text.proofs.StandLaws.{Stand, PlaceInside, inside-at}
 use Rattle.list.specs.Header.{header}
 use Rattle.layout.specs.Counts.{fieldCount}
 use Rattle.list.specs.List.{listColumns, reading, rowsOf, rowsRead, rowNumbers, rowPlaces}

@@ -1,18 +1,16 @@
 -- The text of a list: 19 columns, the fields of section 2 with the name behind the first [01 §6]. Definitions only.
 use mathlib.Core.Path.{_≡_}
-use mathlib.Core.Bool.{true, cond, _&&_}
+use mathlib.Core.Bool.{true}
 use mathlib.Core.List.{List}
 use Prim.Native.Nat.{ℕ, _-_, _/_}
-use lib.Dec.{leb}
 use lib.ListN.{length}
 use Rattle.cursor.specs.declared.Column.{Column}
 use Rattle.text.specs.declared.Columns.{Columns}
 use Rattle.text.specs.declared.Reading.{Reading}
-use Rattle.text.specs.declared.Reading.the-variants.{BadLine, Rows}
 use Rattle.text.specs.Line.{columnsOf}
 use Rattle.text.specs.Grammar.{Row, Text, rowsAs}
 use Rattle.text.specs.Text.{readAs, rowsReadAs, numbersAs, placesAs, blocksOver}
-use Rattle.layout.specs.Counts.{fieldCount, rowsMost}
+use Rattle.layout.specs.Counts.{fieldCount}
 use Rattle.list.specs.Header.{header}
 
 -- the row's own number, its name, the other fields
@@ -38,15 +36,6 @@ rowNumbers s = numbersAs listColumns s
 
 abbrev pub rowPlaces : List ℕ → List ℕ
 rowPlaces s = placesAs listColumns 0 s
-
--- the number and the place that section 4 gives it: 1 TEXT with the line, 2 COUNT for no row or over 256 [01 §4]
-unfoldable pub readingNumber : Reading → ℕ
-readingNumber (BadLine k) = 1
-readingNumber (Rows n) = cond (leb 1 n && leb n rowsMost) 0 2
-
-unfoldable pub readingPlace : Reading → ℕ
-readingPlace (BadLine k) = k
-readingPlace (Rows n) = 0
 
 -- What reading leaves: the answer, and in the buffers the rows before the first bad line, as far as there is room.
 pub record ListTaken (s list names list′ names′ : List ℕ) (r : Reading) : Type 0 where

@@ -9,7 +9,7 @@ use lib.ListN.{length, take, drop, length-append}
 use lib.Seq.{paste, take-add, drop-drop, take-at, drop-at, length-take-le, take-length}
 use borrow.Author.Tests.{lt-ltb, le-ltb}
 use Rattle.fold.proofs.BoolLaws.{lt-or-le}
-use Rattle.text.specs.Text.{over, keptIn, blocksOver}
+use Rattle.text.specs.Text.{over, keptIn, keptFront, blocksOver}
 
 -- block n of w numbers each ends inside, where n is below the room
 pub block-inside : (n room w len : ℕ) → n < room → room * w ≤ len → n * w + w ≤ len
@@ -37,8 +37,7 @@ kept-above room n block l h = rw (le-ltb n room h)
 
 -- a block of so many numbers, by another name for how many
 pub kept-as :
-    (a out out′ : List ℕ) (n w w′ : ℕ) → w ≡ w′ → out′ ≡ keptIn (length out / length (take w a)) n (take w a) out →
-    out′ ≡ keptIn (length out / length (take w′ a)) n (take w′ a) out
+    (a out out′ : List ℕ) (n w w′ : ℕ) → w ≡ w′ → out′ ≡ keptFront w n a out → out′ ≡ keptFront w′ n a out
 kept-as a out out′ n w w′ e h = rw e at h
 
 pub kept-start : (room w : ℕ) (xs l : List ℕ) → l ≡ blocksOver room w 0 xs l

@@ -7,10 +7,12 @@ use Prim.Native.Nat.{ℕ}
 use lib.ListN.{length, drop}
 use Rattle.cursor.specs.declared.Column.{Column}
 use Rattle.cursor.specs.Bytes.{digitByte, plainByte, bareByte, crlf, passes, run}
-use Rattle.cursor.specs.Pieces.{digits, isNumber, decimal, numberOf, plainPart, bareEnd, nameEnd, isFound, placeFound, isName, nameLength, isComma, isCell, cellLength, afterCell}
+use Rattle.cursor.specs.Pieces.{digits, isNumber, decimal, numberOf, plainPart, bareEnd, nameEnd}
+use Rattle.cursor.specs.Pieces.{isFound, placeFound, isName, nameLength, isComma, isCell, cellLength, afterCell}
 use Rattle.text.specs.declared.Reading.the-variants.{Rows, BadLine}
 use Rattle.text.specs.Line.{columnsOf, isEnd, areCells, cellNumbers, cellNames, cellPlaces, isLine, numbersOf, namesOf, placesOf}
-use Rattle.text.specs.Text.{onto, lines, lineLength, afterLine, sameBytes, sizeRight, headed, rowLines, nextIsLine, goodLines, linesRead, readAs, allPlaces, placesAs}
+use Rattle.text.specs.Text.{onto, lines, lineLength, afterLine, sameBytes, sizeRight, headed}
+use Rattle.text.specs.Text.{rowLines, nextIsLine, goodLines, linesRead, readAs, allPlaces, placesAs}
 use Rattle.text.specs.Grammar.{Row, rowOf, rowsAs}
 use Rattle.cursor.specs.Names.{nameAtPlace, namesAt}
 

@@ -70,7 +70,9 @@ pub record CellsThere (ks : List Column) (l : List ℕ) (r : Row) : Type 0 where
   pub good : areCells ks l ≡ true
   pub row : cellsRow ks l ≡ r
 
-row-of : {ns ns′ : List ℕ} {vs vs′ : List (List ℕ)} → ns ≡ ns′ → vs ≡ vs′ → _≡_ {A = Row} (record { numbers = ns; names = vs }) (record { numbers = ns′; names = vs′ })
+row-of :
+    {ns ns′ : List ℕ} {vs vs′ : List (List ℕ)} → ns ≡ ns′ → vs ≡ vs′ →
+    _≡_ {A = Row} (record { numbers = ns; names = vs }) (record { numbers = ns′; names = vs′ })
 row-of p q = rw (p, q)
 
 pub cells-complete : {ks : List Column} {l : List ℕ} {r : Row} → Cells ks l r → CellsThere ks l r

@@ -107,10 +107,13 @@ form-complete : {w : List ℕ} → Form w → (u : List ℕ) → 1 ≤ length w 
 unfolding nameEnd
 form-complete (bare {w} h) u s q z = of-bare w h s
   where
-    of-bare : (w : List ℕ) → All bareByte w → 1 ≤ length w → cond (eqb (getD (w ++ u) 0 0) 34) (plainPart 1 (drop 1 (w ++ u))) (bareEnd 0 (run (passes Bare) (w ++ u))) ≡ At (length w)
+    of-bare :
+        (w : List ℕ) → All bareByte w → 1 ≤ length w →
+        cond (eqb (getD (w ++ u) 0 0) 34) (plainPart 1 (drop 1 (w ++ u))) (bareEnd 0 (run (passes Bare) (w ++ u))) ≡ At (length w)
     of-bare [] h s = absurd (omega arith)
     of-bare (b ∷ w) h s =
-        let k : run (passes Bare) (b ∷ w ++ u) ≡ suc (length w) = run-append bareByte (passes Bare) bare-passes (b ∷ w) u h ∙ rw z (add-zero (suc (length w))) in
+        let k : run (passes Bare) (b ∷ w ++ u) ≡ suc (length w) =
+        run-append bareByte (passes Bare) bare-passes (b ∷ w) u h ∙ rw z (add-zero (suc (length w))) in
         rw (ne-eqb b 34 (plain-no-quote b (bare-plain b (h .0))), k) (bare-end-suc (length w))
 form-complete (quoted {w} h) u s q z =
     let e : (w ++ 34 ∷ []) ++ u ≡ w ++ 34 ∷ u = append-assoc w (34 ∷ []) u in

@@ -15,5 +15,7 @@ pub mod LineLaws
 pub mod PlaceLaws
 pub mod RowAtLaws
 pub mod SameLaws
+pub mod StandLaws
 pub mod TextLaws
+pub mod TurnLaws
 pub mod WalkLaws

@@ -1,14 +1,13 @@
 -- In a well-formed text each name's place lies inside the text and holds the name that the grammar gives the row.
-use mathlib.Core.Path.{_≡_, refl, sym, ap, ap₂, _∙_}
-use mathlib.Core.Bool.{true, false, _&&_}
+use mathlib.Core.Path.{_≡_, sym, ap, _∙_}
+use mathlib.Core.Bool.{true, _&&_}
 use mathlib.Core.Logic.{⊎-elim}
-use mathlib.Core.List.{List, [], _∷_, _++_, map}
-use Prim.Native.Nat.{ℕ, zero, suc, _+_, _-_, _*_, _≤_, _<_}
-use native.Mathlib.Nat.{add-assoc, sub-zero, zero-sub, suc-sub-suc}
-use native.Mathlib.Numerals.{one-add}
+use mathlib.Core.List.{List, [], _∷_, map}
+use Prim.Native.Nat.{ℕ, zero, suc, _+_, _-_, _≤_, _<_}
+use native.Mathlib.Nat.{sub-zero, zero-sub, suc-sub-suc}
 use native.Mathlib.Omega.{arith}
-use lib.ListN.{length, getD, take, drop, length-append, length-drop, length-take, drop-of-length-le}
-use lib.Seq.{drop-drop, drop-append-le, length-take-le, take-take, take-nil}
+use lib.ListN.{length, take, drop, length-drop, length-take, drop-of-length-le}
+use lib.Seq.{drop-drop, length-take-le, take-take, take-nil}
 use Rattle.fold.proofs.BoolLaws.{and-left, and-right, lt-or-le}
 use Rattle.cursor.specs.declared.Column.{Column}
 use Rattle.cursor.specs.declared.Column.the-variants.{Numbers, Names}
@@ -17,61 +16,18 @@ use Rattle.cursor.specs.Bytes.{passes}
 use Rattle.cursor.specs.Pieces.{nameMost, isNumber, isName, nameLength, isComma, isCell, cellLength, afterCell}
 use Rattle.cursor.proofs.RunLaws.{run-length}
 use Rattle.text.specs.Line.{areCells, cellNames, cellPlaces, isLine, placesOf, namesOf}
-use Rattle.text.specs.Grammar.{Row, rowOf, allNames}
-use Rattle.cursor.specs.Names.{nameAtPlace, namesAt}
+use Rattle.text.specs.Grammar.{rowOf, allNames}
 use Rattle.text.specs.Text.{lines, lineLength, goodLines, allPlaces}
 use Rattle.text.proofs.CutLaws.{lineAt, nextAt, cut-at, next-line-at}
 use Rattle.text.proofs.GrammarNames.{name-sound}
-use Rattle.text.proofs.GrammarSound.{GoodCons, good-inversion}
+use Rattle.text.proofs.GrammarSound.{good-inversion}
+use Rattle.text.proofs.StandLaws.{Stand, stand-none, stand-one, stand-both}
 
 drop-take : (m n : ℕ) (l : List ℕ) → drop m (take n l) ≡ take (n - m) (drop m l)
 drop-take zero n l = rw sub-zero
 drop-take (suc m) zero l = rw (zero-sub (suc m))
 drop-take (suc m) (suc n) [] = rw (take-nil (suc n - suc m))
 drop-take (suc m) (suc n) (b ∷ l) = rw (suc-sub-suc n m) (drop-take m n l)
-
--- starts and lengths of names, each of at most 24 bytes and inside so many
-abbrev pub Inside : ℕ → List ℕ → Type 0
-Inside size [] = Unit
-Inside size (a ∷ []) = ⊥
-Inside size (a ∷ n ∷ ps) = (n ≤ nameMost) × (a + n ≤ size) × Inside size ps
-
--- what places say of names in the bytes s
-pub record Stand (s ps : List ℕ) (names : List (List ℕ)) : Type 0 where
-  pub inside : Inside (length s) ps
-  pub long : length ps ≡ length names * 2
-  pub are : namesAt s (length names) ps ≡ names
-
-stand-none : (s : List ℕ) → Stand s [] []
-unfolding namesAt
-stand-none s = record { inside = tt; long = refl; are = refl }
-
-stand-one : (s : List ℕ) (a n : ℕ) (v : List ℕ) (ps : List ℕ) (vs : List (List ℕ)) → n ≤ nameMost → a + n ≤ length s → take n (drop a s) ≡ v → Stand s ps vs → Stand s (a ∷ n ∷ ps) (v ∷ vs)
-unfolding namesAt nameAtPlace
-stand-one s a n v ps vs short fits e h =
-    record { inside = (short, fits, h .inside); long = omega (arith, h .long); are = ap₂ _∷_ e (h .are) }
-
-inside-both : (size : ℕ) (ps qs : List ℕ) → Inside size ps → Inside size qs → Inside size (ps ++ qs)
-inside-both size [] qs h k = k
-inside-both size (a ∷ []) qs h k = absurd h
-inside-both size (a ∷ n ∷ ps) qs h k = (h .0, h .1, inside-both size ps qs (h .2) k)
-
-names-both : (s : List ℕ) (vs : List (List ℕ)) (m : ℕ) (ps qs : List ℕ) → length ps ≡ length vs * 2 → namesAt s (length vs + m) (ps ++ qs) ≡ namesAt s (length vs) ps ++ namesAt s m qs
-unfolding namesAt nameAtPlace
-names-both s [] m [] qs h = rw (native.Mathlib.Nat.zero-add m)
-names-both s [] m (a ∷ ps) qs h = absurd (omega arith)
-names-both s (v ∷ vs) m [] qs h = absurd (omega arith)
-names-both s (v ∷ vs) m (a ∷ []) qs h = absurd (omega arith)
-names-both s (v ∷ vs) m (a ∷ n ∷ ps) qs h =
-    rw (native.Mathlib.Nat.suc-add (length vs) m) (ap (λ (x : List (List ℕ)). take n (drop a s) ∷ x) (names-both s vs m ps qs (omega arith)))
-
-stand-both : (s ps qs : List ℕ) (vs ws : List (List ℕ)) → Stand s ps vs → Stand s qs ws → Stand s (ps ++ qs) (vs ++ ws)
-stand-both s ps qs vs ws h k =
-    record {
-      inside = inside-both (length s) ps qs (h .inside) (k .inside);
-      long = omega (arith, length-append ps qs, length-append vs ws, h .long, k .long);
-      are = rw (length-append vs ws) (names-both s vs (length ws) ps qs (h .long) ∙ ap₂ _++_ (h .are) (k .are));
-    }
 
 -- behind a comma and a cell of n bytes
 next-bytes :
@@ -108,7 +64,9 @@ cells-stand (Names ∷ ks) s l e i fits h g =
     (cells-stand ks s (afterCell Names l) e (i + n + 1) fits (next-bytes s l e i n h)
     (and-right (isComma l && isName (drop 1 l)) (areCells ks (afterCell Names l)) g))
 
-line-stands : (ks : List Column) (s : List ℕ) (i : ℕ) → i < length s → isLine ks (lineAt s i) ≡ true → Stand s (placesOf ks i (lineAt s i)) (namesOf ks (lineAt s i))
+line-stands :
+    (ks : List Column) (s : List ℕ) (i : ℕ) → i < length s → isLine ks (lineAt s i) ≡ true →
+    Stand s (placesOf ks i (lineAt s i)) (namesOf ks (lineAt s i))
 unfolding isLine placesOf namesOf lineLength
 line-stands ks s i h g =
     let n = lineLength (drop i s) in
@@ -116,7 +74,9 @@ line-stands ks s i h g =
     let z : i + n - i ≡ n = omega arith in
     cells-stand ks s (44 ∷ lineAt s i) (i + n) i (omega (arith, r, length-drop i s)) (rw z) g
 
-over-stands : (ks : List Column) (s : List ℕ) (i : ℕ) → length s ≤ i → Stand s (allPlaces ks i (lines (drop i s))) (allNames (map (rowOf ks) (lines (drop i s))))
+over-stands :
+    (ks : List Column) (s : List ℕ) (i : ℕ) → length s ≤ i →
+    Stand s (allPlaces ks i (lines (drop i s))) (allNames (map (rowOf ks) (lines (drop i s))))
 unfolding lines allPlaces allNames
 over-stands ks s i h = rw (drop-of-length-le s h) (stand-none s)
 
@@ -148,18 +108,3 @@ names-stand ks (suc n) s i h g =
         let c = cut-at s i b in
         let q = good-inversion ks (lineAt s i) (lines (drop (nextAt s i) s)) (rw c at g) in
         rw c (joined ks s i b (lines (drop (nextAt s i) s)) (q .first) (more (q .others)))
-
--- the place of name k, by its index
-pub record PlaceInside (size : ℕ) (places : List ℕ) (k : ℕ) : Type 0 where
-  pub short : getD places (k * 2 + 1) 0 ≤ nameMost
-  pub inside : getD places (k * 2) 0 + getD places (k * 2 + 1) 0 ≤ size
-
-pub inside-at : (size : ℕ) (ps : List ℕ) (k : ℕ) → Inside size ps → k * 2 < length ps → PlaceInside size ps k
-inside-at size [] k h i = absurd (omega arith)
-inside-at size (a ∷ []) k h i = absurd h
-inside-at size (a ∷ n ∷ ps) zero h i = record { short = h .0; inside = h .1 }
-inside-at size (a ∷ n ∷ ps) (suc k) h i =
-    let p = inside-at size ps k (h .2) (omega arith) in
-    let e : suc k * 2 ≡ suc (suc (k * 2)) = omega arith in
-    let e′ : suc k * 2 + 1 ≡ suc (suc (k * 2 + 1)) = omega arith in
-    record { short = rw e′ (p .short); inside = rw (e′, e) (p .inside) }

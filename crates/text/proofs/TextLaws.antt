@@ -14,7 +14,8 @@ use Rattle.text.specs.declared.Columns.{Columns}
 use Rattle.text.specs.declared.Reading.{Reading}
 use Rattle.text.specs.declared.Reading.the-variants.{BadLine}
 use Rattle.text.specs.Line.{columnsOf, numberCount, placeCount}
-use Rattle.text.specs.Text.{textMost, lines, lineLength, afterLine, sameBytes, sizeRight, headed, rowLines, readAs, rowsReadAs, numbersAs, placesAs, LinesTaken, TextTaken}
+use Rattle.text.specs.Text.{textMost, lines, lineLength, afterLine, sameBytes, sizeRight, headed}
+use Rattle.text.specs.Text.{rowLines, readAs, rowsReadAs, numbersAs, placesAs, LinesTaken, TextTaken}
 use Rattle.text.proofs.BlockLaws.{kept-start}
 
 pub size-right : (s : List ℕ) → length s ≤ textMost → sizeRight s ≡ true

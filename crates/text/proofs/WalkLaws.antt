@@ -15,7 +15,7 @@ use Rattle.text.specs.declared.LineRead.{LineRead}
 use Rattle.text.specs.declared.Reading.{Reading}
 use Rattle.text.specs.declared.Reading.the-variants.{BadLine, Rows}
 use Rattle.text.specs.Line.{columnsOf, numberCount, placeCount, isLine, numbersOf, placesOf, lineRead}
-use Rattle.text.specs.Text.{lines, lineLength, goodLines, linesRead, allNumbers, allPlaces, keptIn, blocksOver, LinesTaken}
+use Rattle.text.specs.Text.{lines, lineLength, goodLines, linesRead, allNumbers, allPlaces, keptIn, keptFront, blocksOver, LinesTaken}
 use Rattle.text.proofs.BlockLaws.{block-behind, kept-next, kept-start}
 use Rattle.text.proofs.ColumnLaws.{numbers-long, places-long}
 use Rattle.text.proofs.CutLaws.{lineAt, nextAt, cut-at, next-line-at}
@@ -59,7 +59,8 @@ pub record Walk (b : Columns) (s : List ℕ) (from : Cursor) (numbers names numb
       Kept (placeCount b) (allPlaces (columnsOf b) (from .at) (lines (drop (from .at) s)))
       (allPlaces (columnsOf b) (c .at) (lines (drop (c .at) s))) names names′ n
 
-pub walk-start : (b : Columns) (s : List ℕ) (from : Cursor) (numbers names : List ℕ) → from .line ≤ from .at + 1 → Walk b s from numbers names numbers names from 0
+pub walk-start :
+    (b : Columns) (s : List ℕ) (from : Cursor) (numbers names : List ℕ) → from .line ≤ from .at + 1 → Walk b s from numbers names numbers names from 0
 walk-start b s from numbers names h =
     record {
       early = h;
@@ -77,8 +78,8 @@ module _
   pub walk-step :
       (p d : Cursor) (r : LineRead) (numbers″ names″ : List ℕ) → c .at < length s → p ≡ moved c (lineLength (drop (c .at) s)) →
       r ≡ lineRead (columnsOf b) (c .at) (drop (c .at) (take (p .at) s)) → r .good ≡ true →
-      numbers″ ≡ keptIn (length numbers′ / length (take (numberCount b) (r .numbers))) n (take (numberCount b) (r .numbers)) numbers′ →
-      names″ ≡ keptIn (length names′ / length (take (placeCount b) (r .place))) n (take (placeCount b) (r .place)) names′ →
+      numbers″ ≡ keptFront (numberCount b) n (r .numbers) numbers′ →
+      names″ ≡ keptFront (placeCount b) n (r .place) names′ →
       length numbers″ ≡ length numbers′ → length names″ ≡ length names′ → d ≡ nextLine p →
       Walk b s from numbers names numbers″ names″ d (n + 1)
   unfolding allNumbers allPlaces

@@ -103,6 +103,10 @@ over xs l = xs ++ drop (length xs) l
 unfoldable pub keptIn : ℕ → ℕ → List ℕ → List ℕ → List ℕ
 keptIn room n block l = cond (ltb n room) (paste l (n * length block) block (length block)) l
 
+-- the same with the first w numbers of a for a block, in as much room as the buffer has
+abbrev pub keptFront : ℕ → ℕ → List ℕ → List ℕ → List ℕ
+keptFront w n a l = keptIn (length l / length (take w a)) n (take w a) l
+
 -- a buffer over which the first n blocks of w numbers of xs were written, as far as there is room
 unfoldable pub blocksOver : ℕ → ℕ → ℕ → List ℕ → List ℕ → List ℕ
 blocksOver room w n xs l = over (take (min n room * w) xs) l

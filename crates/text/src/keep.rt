@@ -4,9 +4,9 @@ use super::LineRead;
 use blocks::put;
 ghost use mathlib.Core.Path.{_≡_};
 ghost use Prim.Native.Nat.{_/_};
-ghost use lib.ListN.{length, take};
+ghost use lib.ListN.{length};
 ghost use Rattle.text.specs.Line.{numberCount, placeCount, Usable};
-ghost use Rattle.text.specs.Text.{keptIn};
+ghost use Rattle.text.specs.Text.{keptIn, keptFront};
 
 // Keeps block n where there is room for it.
 fn keep(out: &mut [u64], n: usize, block: &[u64])
@@ -30,8 +30,8 @@ pub(crate) fn keep_row(
     row: LineRead,
 )
     requires { ⌜ Usable columns ⌝ }
-    ensures { λ _. ⌜ now (numbers .exit) ≡ keptIn (length (now (numbers .entry)) / length (take (numberCount columns) (row .numbers))) n (take (numberCount columns) (row .numbers)) (now (numbers .entry)) ⌝ }
-    ensures { λ _. ⌜ now (names .exit) ≡ keptIn (length (now (names .entry)) / length (take (placeCount columns) (row .place))) n (take (placeCount columns) (row .place)) (now (names .entry)) ⌝ }
+    ensures { λ _. ⌜ now (numbers .exit) ≡ keptFront (numberCount columns) n (row .numbers) (now (numbers .entry)) ⌝ }
+    ensures { λ _. ⌜ now (names .exit) ≡ keptFront (placeCount columns) n (row .place) (now (names .entry)) ⌝ }
 {
     let all = row.numbers;
     let place = row.place;

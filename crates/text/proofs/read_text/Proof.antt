@@ -57,14 +57,17 @@ returns-2 c =
     let end = c .before .before .before in
     let a = start-of end .args in
     text-unheaded _ _ _ _ _ _ _ (short end)
-    (sym (headed-is _ (a .columns) (now (a .text)) (a .from) (end .skip .result) (end .skip .ensures) _ (c .before .is-header .ensures)) ∙ not-true _ (c .if2 .taken))
+    (sym (headed-is _ (a .columns) (now (a .text)) (a .from) (end .skip .result) (end .skip .ensures) _ (c .before .is-header .ensures)) ∙
+    not-true _ (c .if2 .taken))
 
 next-line-requires : tie.Need-next-line-requires
 next-line-requires c κs =
     let end = c .before .before .before in
     let start = start-of end in
-    let inside = ends-inside end in
-    (omega (arith, inside, start .good .0), omega (arith, ap (λ (q : Cursor). q .line) (end .skip .ensures), start .pre .0 .early, start .pre .1, start .good .0))
+    let inside = ends-inside end in (
+      omega (arith, inside, start .good .0),
+      omega (arith, ap (λ (q : Cursor). q .line) (end .skip .ensures), start .pre .0 .early, start .pre .1, start .good .0),
+    )
 
 read-rows-requires : tie.Need-read-rows-requires
 read-rows-requires c κs =
@@ -76,8 +79,14 @@ read-rows-requires c κs =
     record {
       usable = start .pre .0 .usable;
       early =
-          omega
-          (arith, ap (λ (q : Cursor). q .line) d, ap (λ (q : Cursor). q .at) d, ap (λ (q : Cursor). q .line) p, ap (λ (q : Cursor). q .at) p, start .pre .0 .early);
+          omega (
+            arith,
+            ap (λ (q : Cursor). q .line) d,
+            ap (λ (q : Cursor). q .at) d,
+            ap (λ (q : Cursor). q .line) p,
+            ap (λ (q : Cursor). q .at) p,
+            start .pre .0 .early,
+          );
     }
 
 same-length : tie.Need-same-length
@@ -96,7 +105,8 @@ returns-3 c =
     let a = start-of end .args in
     let p = end .skip .ensures in
     text-rows _ _ (now (a .text)) (a .from) (end .skip .result) p _ _ _ _ _ (next .next-line .result) (next .next-line .ensures) (short end)
-    (sym (headed-is _ (a .columns) (now (a .text)) (a .from) (end .skip .result) p _ (tested .before .is-header .ensures)) ∙ not-false _ (tested .if2 .left))
+    (sym (headed-is _ (a .columns) (now (a .text)) (a .from) (end .skip .result) p _ (tested .before .is-header .ensures)) ∙
+    not-false _ (tested .if2 .left))
     (read .read-rows .ensures)
 
 pub read-text-spec : {M : Type 1} → statement M

@@ -1,5 +1,4 @@
 -- The proof of the cycle of calls {plain, quote}. Each call stands one byte further on, so the measure is what is left of the slice.
--- Assumes nothing.
 use mathlib.Core.Path.{sym, ap, _∙_}
 use Prim.Native.Nat.{_-_, ℕ, _<_}
 use native.Mathlib.Omega.{arith}
@@ -86,8 +85,10 @@ plain-returns-2 : (t : ℕ) → plain-lts.Need-returns-2 (
   plain-below t,
   plain.Post,
 ) (plain-at t) plain.Post
-plain-returns-2 t c = let a = c .before .before .before .before .before .args in
-    c .quote .ensures ∙ ap (nameTo (a .self .line)) (sym (plain-to-quote (now (a .s)) (a .self .at) (c .before .before .before .if1 .left) (c .before .if2 .taken)))
+plain-returns-2 t c =
+    let a = c .before .before .before .before .before .args in
+    c .quote .ensures ∙ ap (nameTo (a .self .line))
+    (sym (plain-to-quote (now (a .s)) (a .self .at) (c .before .before .before .if1 .left) (c .before .if2 .taken)))
 
 plain-plain-byte-requires : (t : ℕ) → plain-lts.Need-plain-byte-requires (
   quote-below t,
@@ -107,7 +108,10 @@ plain-plain-requires : (t : ℕ) → plain-lts.Need-plain-requires (
   plain-below t,
   plain.Post,
 ) (plain-at t) plain.Post
-plain-plain-requires t c κs = (omega (arith, c .before .before .before .before .before .before .pre .0, c .before .before .before .before .if1 .left), tt)
+plain-plain-requires t c κs =
+    let at-if1 = c .before .before .before .before in
+    let start = at-if1 .before .before in
+    (omega (arith, start .pre .0, at-if1 .if1 .left), tt)
 
 plain-returns-3 : (t : ℕ) → plain-lts.Need-returns-3 (
   quote-below t,
@@ -117,8 +121,15 @@ plain-returns-3 : (t : ℕ) → plain-lts.Need-returns-3 (
   plain-below t,
   plain.Post,
 ) (plain-at t) plain.Post
-plain-returns-3 t c = let a = c .before .before .before .before .before .before .before .args in
-    c .plain .ensures ∙ ap (nameTo (a .self .line)) (sym (plain-more (now (a .s)) (a .self .at) (c .before .before .before .before .before .if1 .left) (c .before .before .before .if2 .left) (sym (c .before .before .plain-byte .ensures) ∙ c .before .if3 .taken)))
+plain-returns-3 t c =
+    let at-if3 = c .before in
+    let at-plain-byte = at-if3 .before in
+    let at-if2 = at-plain-byte .before in
+    let at-if1 = at-if2 .before .before in
+    let start = at-if1 .before .before in
+    let a = start .args in
+    c .plain .ensures ∙ ap (nameTo (a .self .line))
+    (sym (plain-more (now (a .s)) (a .self .at) (at-if1 .if1 .left) (at-if2 .if2 .left) (sym (at-plain-byte .plain-byte .ensures) ∙ at-if3 .if3 .taken)))
 
 plain-returns-4 : (t : ℕ) → plain-lts.Need-returns-4 (
   quote-below t,
@@ -128,8 +139,14 @@ plain-returns-4 : (t : ℕ) → plain-lts.Need-returns-4 (
   plain-below t,
   plain.Post,
 ) (plain-at t) plain.Post
-plain-returns-4 t c = let a = c .before .before .before .before .before .before .args in
-    ap (nameTo (a .self .line)) (sym (plain-fails (now (a .s)) (a .self .at) (c .before .before .before .before .if1 .left) (c .before .before .if2 .left) (sym (c .before .plain-byte .ensures) ∙ c .if3 .left)))
+plain-returns-4 t c =
+    let at-plain-byte = c .before in
+    let at-if2 = at-plain-byte .before in
+    let at-if1 = at-if2 .before .before in
+    let start = at-if1 .before .before in
+    let a = start .args in
+    ap (nameTo (a .self .line))
+    (sym (plain-fails (now (a .s)) (a .self .at) (at-if1 .if1 .left) (at-if2 .if2 .left) (sym (at-plain-byte .plain-byte .ensures) ∙ c .if3 .left)))
 
 quote-returns :
     (t : ℕ) → quote-lts.Need-returns (plain-below t, plain.Post) (quote-at t) quote.Post
@@ -150,12 +167,16 @@ quote-plain-requires t c κs = (omega (arith, c .before .before .before .before 
 
 quote-returns-2 :
     (t : ℕ) → quote-lts.Need-returns-2 (plain-below t, plain.Post) (quote-at t) quote.Post
-quote-returns-2 t c = let a = c .before .before .before .before .before .args in
-    c .plain .ensures ∙ ap (nameTo (a .self .line)) (sym (quote-doubled (now (a .s)) (a .self .at) (c .before .before .before .if1 .left) (c .before .if2 .taken)))
+quote-returns-2 t c =
+    let a = c .before .before .before .before .before .args in
+    c .plain .ensures ∙ ap (nameTo (a .self .line))
+    (sym (quote-doubled (now (a .s)) (a .self .at) (c .before .before .before .if1 .left) (c .before .if2 .taken)))
 
 quote-returns-3 :
     (t : ℕ) → quote-lts.Need-returns-3 (plain-below t, plain.Post) (quote-at t) quote.Post
-quote-returns-3 t c = let a = c .before .before .before .before .args in ap (nameTo (a .self .line)) (sym (quote-closes (now (a .s)) (a .self .at) (c .before .before .if1 .left) (c .if2 .left)))
+quote-returns-3 t c =
+    let a = c .before .before .before .before .args in
+    ap (nameTo (a .self .line)) (sym (quote-closes (now (a .s)) (a .self .at) (c .before .before .if1 .left) (c .if2 .left)))
 
 pub +plain+quote-spec : {M : Type 1} → statement M
 +plain+quote-spec = close μ-plain μ-quote (λ t. plain-lts.spec (

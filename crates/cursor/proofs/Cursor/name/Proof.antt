@@ -1,5 +1,4 @@
 -- `Cursor::name` meets its contract: the bytes looked at are the first 24 of what is left, or all of it.
--- Assumes nothing.
 use mathlib.Core.Path.{sym, _∙_}
 use native.Mathlib.Omega.{arith}
 use lib.Seq.{length-take-le}

@@ -1,5 +1,4 @@
 -- `Cursor::name_within` meets its contract: a quote opens a quoted name, and anything else is a run of bare bytes.
--- Assumes nothing.
 use mathlib.Core.Path.{sym, ap, _∙_}
 use denote.Ref.{now}
 use borrow.Author.Needs.{needs}
@@ -32,16 +31,22 @@ skip-requires c κs = search needs
 
 returns-3 : tie.Need-returns-3
 returns-3 c =
-    let a = c .before .before .before .before .before .before .before .args in
-    let e = ap (λ (q : Cursor). q .at) (c .before .before .skip .ensures) in
-    ap (nameTo (a .self .line)) (sym (name-bare (now (a .w)) (a .self .at) (c .before .before .before .if2 .left) ∙ bare-none (a .self .at) _ (sym e ∙ c .if3 .taken)))
+    let at-skip = c .before .before in
+    let at-if2 = at-skip .before in
+    let start = at-if2 .before .before .before .before in
+    let a = start .args in
+    let e = ap (λ (q : Cursor). q .at) (at-skip .skip .ensures) in
+    ap (nameTo (a .self .line)) (sym (name-bare (now (a .w)) (a .self .at) (at-if2 .if2 .left) ∙ bare-none (a .self .at) _ (sym e ∙ c .if3 .taken)))
 
 returns-4 : tie.Need-returns-4
 returns-4 c =
-    let a = c .before .before .before .before .before .before .before .args in
-    let e = ap (λ (q : Cursor). q .at) (c .before .before .skip .ensures) in
-    ap Name (c .before .before .skip .ensures) ∙
-    ap (nameTo (a .self .line)) (sym (name-bare (now (a .w)) (a .self .at) (c .before .before .before .if2 .left) ∙ bare-some (a .self .at) _ (λ z. c .if3 .left (e ∙ z))))
+    let at-skip = c .before .before in
+    let at-if2 = at-skip .before in
+    let start = at-if2 .before .before .before .before in
+    let a = start .args in
+    let e = ap (λ (q : Cursor). q .at) (at-skip .skip .ensures) in
+    ap Name (at-skip .skip .ensures) ∙
+    ap (nameTo (a .self .line)) (sym (name-bare (now (a .w)) (a .self .at) (at-if2 .if2 .left) ∙ bare-some (a .self .at) _ (λ z. c .if3 .left (e ∙ z))))
 
 pub name-within-spec : {M : Type 1} → statement M
 name-within-spec =

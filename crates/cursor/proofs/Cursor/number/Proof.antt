@@ -1,5 +1,4 @@
 -- `Cursor::number` meets its contract: the run of digits is one to nine long and has no leading zero, or there is no number.
--- Assumes nothing.
 use mathlib.Core.Path.{ap}
 use mathlib.Core.Logic.{inl, inr, ⊎-elim}
 use native.Mathlib.Omega.{arith}
@@ -43,16 +42,23 @@ sub-if3 c =
 shared-slice-read-if4 : tie.Need-shared-slice-read-if4
 unfolding digits
 shared-slice-read-if4 c =
-    let a = c .before .before .before .before .before .before .args in
-    let e = ap (λ (q : Cursor). q .at) (c .before .before .before .before .skip .ensures) in
-    omega (arith, number-inside (now (a .s)) (a .self .at) (c .before .before .before .before .skip .result .at) e (c .before .before .before .if1 .left), c .before .if3 .taken)
+    let at-if3 = c .before in
+    let at-if1 = at-if3 .before .before in
+    let at-skip = at-if1 .before in
+    let start = at-skip .before .before in
+    let a = start .args in
+    let e = ap (λ (q : Cursor). q .at) (at-skip .skip .ensures) in
+    omega (arith, number-inside (now (a .s)) (a .self .at) (at-skip .skip .result .at) e (at-if1 .if1 .left), at-if3 .if3 .taken)
 
 returns-3 : tie.Need-returns-3
 unfolding digits
 returns-3 c =
-    let a = c .before .before .before .before .before .before .before .args in
-    let e = ap (λ (q : Cursor). q .at) (c .before .before .before .before .before .skip .ensures) in
-    number-bad _ _ (number-zero (now (a .s)) (a .self .at) (c .before .before .before .before .before .skip .result .at) e (c .before .before .if3 .taken) (c .if4 .taken))
+    let at-if3 = c .before .before in
+    let at-skip = at-if3 .before .before .before in
+    let start = at-skip .before .before in
+    let a = start .args in
+    let e = ap (λ (q : Cursor). q .at) (at-skip .skip .ensures) in
+    number-bad _ _ (number-zero (now (a .s)) (a .self .at) (at-skip .skip .result .at) e (at-if3 .if3 .taken) (c .if4 .taken))
 
 value-requires : tie.Need-value-requires
 unfolding digits
@@ -64,11 +70,16 @@ value-requires c κs =
 returns-4 : tie.Need-returns-4
 unfolding digits
 returns-4 c =
-    let a = c .before .before .before .before .before .before .args in
-    let e = ap (λ (q : Cursor). q .at) (c .before .before .before .before .skip .ensures) in
-    let z = ⊎-elim (λ w. inr (w .2 .left)) (λ w. inl (w .left)) (c .before .if3 .came) in
-    number-read (now (a .s)) (a .self) (c .before .before .before .before .skip .result) _ (c .before .before .before .before .skip .ensures)
-    (number-right (now (a .s)) (a .self .at) (c .before .before .before .before .skip .result .at) e (c .before .before .before .if1 .left) (c .before .before .if2 .left) z) (c .value .ensures)
+    let at-if3 = c .before in
+    let at-if2 = at-if3 .before in
+    let at-if1 = at-if2 .before in
+    let at-skip = at-if1 .before in
+    let start = at-skip .before .before in
+    let a = start .args in
+    let e = ap (λ (q : Cursor). q .at) (at-skip .skip .ensures) in
+    let z = ⊎-elim (λ w. inr (w .2 .left)) (λ w. inl (w .left)) (at-if3 .if3 .came) in
+    number-read (now (a .s)) (a .self) (at-skip .skip .result) _ (at-skip .skip .ensures)
+    (number-right (now (a .s)) (a .self .at) (at-skip .skip .result .at) e (at-if1 .if1 .left) (at-if2 .if2 .left) z) (c .value .ensures)
 
 pub number-spec : {M : Type 1} → statement M
 number-spec =

@@ -1,6 +1,5 @@
 -- `Cursor::skip` meets its contract. The loop's invariant: the place and the run left there end where the whole run ends. The measure is what
 -- is left of the slice.
--- Assumes nothing.
 use mathlib.Core.Path.{_≡_, refl, sym, ap, _∙_}
 use Prim.Native.Nat.{ℕ, _+_, _-_}
 use native.Mathlib.Omega.{arith}

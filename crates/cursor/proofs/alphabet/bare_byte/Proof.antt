@@ -1,5 +1,4 @@
 -- `bare_byte` meets its contract: a comma fails, and any other byte is bare exactly where it is plain.
--- Assumes nothing.
 use borrow.Author.Tests.{eq-eqb, ne-eqb}
 use borrow.Author.Needs.{needs}
 use Rattle.cursor.specs.Bytes.{bareByte}

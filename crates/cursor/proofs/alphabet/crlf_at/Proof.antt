@@ -1,5 +1,4 @@
 -- `crlf_at` meets its contract: the two bytes that it reads are the first two of what is left.
--- Assumes nothing.
 use denote.Ref.{now}
 use borrow.Author.Needs.{needs}
 use Rattle.cursor.proofs.ByteLaws.{crlf-no-cr, crlf-at-end, crlf-lf}

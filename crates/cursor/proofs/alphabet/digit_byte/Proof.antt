@@ -1,5 +1,4 @@
 -- `digit_byte` meets its contract: at each return the tests that led there decide `digitByte`.
--- Assumes nothing.
 use borrow.Author.Tests.{lt-leb, le-leb}
 use Rattle.cursor.specs.Bytes.{digitByte}
 use Rattle.cursor.proofs.alphabet.digit_byte.Statement.{statement}

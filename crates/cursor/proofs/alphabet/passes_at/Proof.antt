@@ -1,5 +1,4 @@
 -- `passes_at` meets its contract: in each class the test of the byte is the class's own.
--- Assumes nothing.
 use denote.Ref.{now}
 use borrow.Author.Needs.{needs}
 use Rattle.cursor.proofs.ByteLaws.{passes-digit, passes-bare, passes-in-line}
@@ -31,10 +30,14 @@ crlf-at-requires : tie.Need-crlf-at-requires
 crlf-at-requires c κs = search needs
 
 returns : tie.Need-returns
-returns c = let a = c .before .before .before .before .before .args in passes-digit (now (a .s)) (a .i) _ _ (c .before .before .enum-told .given .1) (c .digit-byte .ensures)
+returns c =
+    let a = c .before .before .before .before .before .args in
+    passes-digit (now (a .s)) (a .i) _ _ (c .before .before .enum-told .given .1) (c .digit-byte .ensures)
 
 returns-2 : tie.Need-returns-2
-returns-2 c = let a = c .before .before .before .before .before .args in passes-bare (now (a .s)) (a .i) _ _ (c .before .before .enum-told2 .given .1) (c .bare-byte .ensures)
+returns-2 c =
+    let a = c .before .before .before .before .before .args in
+    passes-bare (now (a .s)) (a .i) _ _ (c .before .before .enum-told2 .given .1) (c .bare-byte .ensures)
 
 returns-3 : tie.Need-returns-3
 returns-3 c = let a = c .before .before .before .before .args in passes-in-line (now (a .s)) (a .i) _ _ (c .before .enum-told3 .given .1) (c .crlf-at .ensures)

@@ -1,5 +1,4 @@
 -- `plain_byte` meets its contract: at each return the tests that led there decide `plainByte`.
--- Assumes nothing.
 use borrow.Author.Tests.{lt-leb, le-leb}
 use Rattle.cursor.specs.Bytes.{plainByte}
 use Rattle.cursor.proofs.alphabet.plain_byte.Statement.{statement}

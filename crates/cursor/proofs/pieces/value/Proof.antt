@@ -1,6 +1,5 @@
 -- `value` meets its contract. The loop's invariant: the value so far, followed by the digits left, is the value of all digits; it stays below
 -- 10 to the number of digits read, so that nothing wraps. The measure is what is left.
--- Assumes nothing.
 use mathlib.Core.Path.{_≡_, refl, sym, _∙_}
 use Prim.Native.Nat.{_+_, _-_, _^_, _≤_, _<_, suc}
 use native.Mathlib.Nat.{le-refl}

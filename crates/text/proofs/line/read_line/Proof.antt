@@ -7,7 +7,8 @@ use lib.ListN.{length}
 use denote.Ref.{now}
 use borrow.Author.Needs.{needs}
 use Rattle.text.specs.Line.{columnsOf}
-use Rattle.text.proofs.LineLaws.{ReadTo, read-none, Turn, turn-room, turn-number, turn-name, turn-none, line-over, line-done}
+use Rattle.text.proofs.LineLaws.{ReadTo, read-none}
+use Rattle.text.proofs.TurnLaws.{Turn, turn-room, turn-number, turn-name, turn-none, line-over, line-done}
 use Rattle.text.proofs.line.read_line.Statement.{statement}
 use Rattle.text.proofs.line.read_line.Tie as tie
 
@@ -96,7 +97,8 @@ returns-2 : tie.Need-returns-2 Inv-loop μ-loop
 returns-2 c =
     let loop = c .before .before .before .before in
     let start = loop .before .before .before in
-    let all : length (columnsOf (start .args .columns)) ≤ loop .loop .k = omega (arith, loop .before .count .ensures, c .before .before .before .loop-test .left) in
+    let all : length (columnsOf (start .args .columns)) ≤ loop .loop .k =
+    omega (arith, loop .before .count .ensures, c .before .before .before .loop-test .left) in
     c .no-line2 .ensures ∙
     line-over _ _ _ _ _ (loop .loop .c) _ _ (start .pre) (loop .loop .inv .1) all (c .before .if1 .taken)
 
@@ -104,7 +106,8 @@ returns-3 : tie.Need-returns-3 Inv-loop μ-loop
 returns-3 c =
     let loop = c .before .before .before in
     let start = loop .before .before .before in
-    let all : length (columnsOf (start .args .columns)) ≤ loop .loop .k = omega (arith, loop .before .count .ensures, c .before .before .loop-test .left) in
+    let all : length (columnsOf (start .args .columns)) ≤ loop .loop .k =
+    omega (arith, loop .before .count .ensures, c .before .before .loop-test .left) in
     line-done _ _ _ _ _ (loop .loop .c) _ _ (start .pre) (loop .loop .inv .1) all (c .if1 .left)
 
 pub read-line-spec : {M : Type 1} → statement M
