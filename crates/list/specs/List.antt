@@ -6,7 +6,6 @@ use Prim.Native.Nat.{ℕ, _-_, _/_}
 use lib.Dec.{leb}
 use lib.ListN.{length}
 use Rattle.cursor.specs.declared.Column.{Column}
-use Rattle.text.specs.declared.Columns.{Columns}
 use Rattle.text.specs.declared.Reading.{Reading}
 use Rattle.text.specs.declared.Reading.the-variants.{BadLine, Rows}
 use Rattle.text.specs.Line.{columnsOf}
