@@ -4,12 +4,13 @@ use mathlib.Core.Bool.{Bool, true, false, cond}
 use mathlib.Core.List.{List}
 use Prim.Native.Nat.{ℕ, _+_, _-_}
 use native.Mathlib.Nat.{add-sub-cancel-left}
+use Rattle.fold.proofs.BoolLaws.{zero-not-one}
 use Rattle.cursor.specs.declared.Column.{Column}
 use Rattle.cursor.specs.declared.Column.the-variants.{Numbers, Names}
 use Rattle.cursor.specs.declared.Cursor.{Cursor}
 use Rattle.cursor.specs.declared.CellRead.the-variants.{NumberCell, NameCell, NoCell}
 use Rattle.cursor.specs.Pieces.{moved, digits, isNumber, numberOf, isName, nameLength, isCell, cellLength, numberAt, cellAt}
-use Rattle.cursor.proofs.NameLaws.{clash, NameWas}
+use Rattle.cursor.proofs.NameLaws.{NameWas}
 
 -- a cell by its column
 pub cell-number : (column : Column) (c : Cursor) (l : List ℕ) → column ≡ Numbers → numberAt c l ≡ cellAt column c l
@@ -49,12 +50,12 @@ number-is Numbers c d l v = by-test (isNumber l) refl
     by-test true n e =
         let p : d ≡ moved c (digits l) = cc in
         record { is = refl; cell = record { is-cell = n; past = ap (λ (q : Cursor). q .at) p }; value = cc }
-    by-test false n e = clash (cc)
+    by-test false n e = absurd (zero-not-one cc)
 number-is Names c d l v = by-test (isName l)
   where
     by-test : (t : Bool) → NumberCell v d ≡ cond t (NameCell (c .at) (nameLength l) (moved c (nameLength l))) NoCell → NumberIs Names (c .at) l v d
-    by-test true e = clash (cc)
-    by-test false e = clash (cc)
+    by-test true e = absurd (zero-not-one cc)
+    by-test false e = absurd (zero-not-one cc)
 
 pub name-is : (column : Column) (c d : Cursor) (l : List ℕ) (a n : ℕ) → NameCell a n d ≡ cellAt column c l → NameIs column (c .at) l a n d
 unfolding cellAt numberAt isCell cellLength
@@ -66,22 +67,22 @@ name-is Names c d l a n = by-test (isName l) refl
     by-test true t e =
         let p : d ≡ moved c (nameLength l) = cc in
         record { is = refl; cell = record { is-cell = t; past = ap (λ (q : Cursor). q .at) p }; start = cc; size = cc }
-    by-test false t e = clash (cc)
+    by-test false t e = absurd (zero-not-one cc)
 name-is Numbers c d l a n = by-test (isNumber l)
   where
     by-test : (t : Bool) → NameCell a n d ≡ cond t (NumberCell (numberOf l) (moved c (digits l))) NoCell → NameIs Numbers (c .at) l a n d
-    by-test true e = clash (cc)
-    by-test false e = clash (cc)
+    by-test true e = absurd (zero-not-one cc)
+    by-test false e = absurd (zero-not-one cc)
 
 pub none-is : (column : Column) (c : Cursor) (l : List ℕ) → NoCell ≡ cellAt column c l → isCell column l ≡ false
 unfolding cellAt numberAt isCell
 none-is Numbers c l = by-test (isNumber l)
   where
     by-test : (t : Bool) → NoCell ≡ cond t (NumberCell (numberOf l) (moved c (digits l))) NoCell → t ≡ false
-    by-test true e = clash (cc)
+    by-test true e = absurd (zero-not-one cc)
     by-test false e = refl
 none-is Names c l = by-test (isName l)
   where
     by-test : (t : Bool) → NoCell ≡ cond t (NameCell (c .at) (nameLength l) (moved c (nameLength l))) NoCell → t ≡ false
-    by-test true e = clash (cc)
+    by-test true e = absurd (zero-not-one cc)
     by-test false e = refl

@@ -10,12 +10,12 @@ use lib.Dec.{eqb}
 use lib.ListN.{length, drop, getD, List·getD-eq-default}
 use lib.Seq.{drop-drop}
 use borrow.Author.Tests.{eq-eqb, ne-eqb}
+use Rattle.fold.proofs.BoolLaws.{zero-not-one}
 use Rattle.cursor.specs.declared.Column.{Column}
 use Rattle.cursor.specs.declared.Cursor.{Cursor}
 use Rattle.cursor.specs.declared.CellRead.{CellRead}
 use Rattle.cursor.specs.declared.CellRead.the-variants.{NumberCell, NameCell, NoCell}
 use Rattle.cursor.specs.Pieces.{moved, isComma, isCell, cellLength, afterCell, cellAt, fieldAt}
-use Rattle.cursor.proofs.NameLaws.{clash}
 use Rattle.cursor.proofs.CellLaws.{CellIs, NumberIs, NameIs, number-is, name-is, none-is}
 use Rattle.cursor.proofs.RunLaws.{first-left}
 
@@ -105,7 +105,7 @@ module _ (first : Bool) (column : Column) (s : List ℕ) (c : Cursor) where
       (λ w.
       let n = number-is column (record { at = startOf first (c .at); line = c .line }) d (drop 1 (lead first (drop (c .at) s))) v (w .1) in
       (record { comma = w .0; behind = behind first column s c d (n .cell) }, n))
-      (λ w. clash (let q = w .1 in cc))
+      (λ w. absurd (zero-not-one (let q = w .1 in cc)))
       (cell-of-field first column s c (NumberCell v d) e)
 
   pub name-field :
@@ -116,7 +116,7 @@ module _ (first : Bool) (column : Column) (s : List ℕ) (c : Cursor) where
       (λ w.
       let m = name-is column (record { at = startOf first (c .at); line = c .line }) d (drop 1 (lead first (drop (c .at) s))) a n (w .1) in
       (record { comma = w .0; behind = behind first column s c d (m .cell) }, m))
-      (λ w. clash (let q = w .1 in cc))
+      (λ w. absurd (zero-not-one (let q = w .1 in cc)))
       (cell-of-field first column s c (NameCell a n d) e)
 
   pub no-field :

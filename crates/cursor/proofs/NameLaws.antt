@@ -9,6 +9,7 @@ use lib.Dec.{eqb}
 use lib.ListN.{length, take, drop, getD, drop-of-length-le, length-drop}
 use lib.Seq.{drop-drop, take-all, take-nil}
 use borrow.Author.Tests.{eq-eqb, ne-eqb}
+use Rattle.fold.proofs.BoolLaws.{zero-not-one}
 use Rattle.fold.specs.declared.Found.{Found}
 use Rattle.fold.specs.declared.Found.the-variants.{At, Nothing}
 use Rattle.cursor.specs.declared.Class.the-variants.{Bare}
@@ -97,10 +98,6 @@ pub name-nothing : (c : Cursor) (s : List ℕ) → length s ≤ c .at → NoName
 unfolding nameAt isName nameEnd bareEnd run isFound
 name-nothing c s h = rw (drop-of-length-le s h)
 
--- two different answers are not equal
-pub clash : {P : Type 0} → _≡_ {A = ℕ} 0 1 → P
-clash e = absurd (omega arith)
-
 -- what a name that was read says, and what none says
 pub record NameWas (c : Cursor) (l : List ℕ) (d : Cursor) : Type 0 where
   pub name : isName l ≡ true
@@ -112,12 +109,12 @@ name-was c d l = by-test (isName l) refl
   where
     by-test : (t : Bool) → isName l ≡ t → Name d ≡ cond t (Name (moved c (nameLength l))) NoName → NameWas c l d
     by-test true n e = record { name = n; past = cc }
-    by-test false n e = clash (cc)
+    by-test false n e = absurd (zero-not-one cc)
 
 pub name-was-none : (c : Cursor) (l : List ℕ) → NoName ≡ nameAt c l → isName l ≡ false
 unfolding nameAt
 name-was-none c l = by-test (isName l) refl
   where
     by-test : (t : Bool) → isName l ≡ t → NoName ≡ cond t (Name (moved c (nameLength l))) NoName → isName l ≡ false
-    by-test true n e = clash (cc)
+    by-test true n e = absurd (zero-not-one cc)
     by-test false n e = n

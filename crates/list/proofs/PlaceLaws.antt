@@ -1,18 +1,17 @@
 -- In the text of a list that was read whole the numbers fill 18 a row, and each row's name stands where its place says.
-use mathlib.Core.Path.{_≡_, refl, sym, ap, subst, _∙_}
+use mathlib.Core.Path.{_≡_, refl, ap, subst, _∙_}
 use mathlib.Core.Bool.{true}
-use mathlib.Core.List.{List, [], _∷_, map}
+use mathlib.Core.List.{List, [], _∷_}
 use Prim.Native.Nat.{ℕ, _+_, _*_, _<_}
-use native.Mathlib.Nat.{zero-add}
 use native.Mathlib.Omega.{arith}
 use lib.ListN.{length, length-append}
 use Rattle.text.specs.declared.Reading.the-variants.{Rows}
-use Rattle.text.specs.Line.{numbersOf, placesOf, namesOf}
-use Rattle.text.specs.Grammar.{Row, rowOf, rowsAs, allNames}
+use Rattle.text.specs.Line.{numbersOf, placesOf}
+use Rattle.text.specs.Grammar.{rowsAs, allNames}
 use Rattle.cursor.specs.Names.{namesAt}
-use Rattle.text.specs.Text.{lines, lineLength, afterLine, rowLines, rowsReadAs, allNumbers, allPlaces, numbersAs, placesAs}
+use Rattle.text.specs.Text.{lineLength, afterLine, rowLines, rowsReadAs, allNumbers, allPlaces, numbersAs, placesAs}
 use Rattle.text.proofs.ColumnLaws.{numbers-long, places-long}
-use Rattle.text.proofs.GrammarTheorem.{Accepted, accepted}
+use Rattle.text.proofs.GrammarTheorem.{accepted}
 use Rattle.text.proofs.PlaceLaws.{names-stand}
 use Rattle.text.proofs.StandLaws.{Stand, PlaceInside, inside-at}
 use Rattle.list.specs.Header.{header}

@@ -5,7 +5,6 @@ use mathlib.Core.List.{List}
 use Prim.Native.Nat.{ℕ, _-_, _/_}
 use lib.ListN.{length}
 use Rattle.cursor.specs.declared.Column.{Column}
-use Rattle.text.specs.declared.Columns.{Columns}
 use Rattle.text.specs.declared.Reading.{Reading}
 use Rattle.text.specs.Line.{columnsOf}
 use Rattle.text.specs.Grammar.{Row, Text, rowsAs}

@@ -27,7 +27,7 @@ use Rattle.calculate.specs.Whole.{whole}
 use Rattle.calculate.proofs.AnswerLaws.{answered-size}
 use Rattle.sheet.specs.Ready.{RowsReady}
 use Rattle.sheet.specs.Sheet.{namesOf, blankCard, Sheet, refusedWith, sheetWith, sheetBy, sheetOf, fitted, sheetMost, Filled}
-use Rattle.text.proofs.PlaceLaws.{PlaceInside}
+use Rattle.text.proofs.StandLaws.{PlaceInside}
 use Rattle.list.proofs.PlaceLaws.{RowsStand, rows-stand}
 
 -- a buffer over whose start n blocks of w numbers were written

@@ -13,7 +13,7 @@ use Rattle.text.specs.declared.Reading.the-variants.{Rows, BadLine}
 use Rattle.text.specs.Line.{columnsOf, isEnd, areCells, cellNumbers, cellNames, cellPlaces, isLine, numbersOf, namesOf, placesOf}
 use Rattle.text.specs.Text.{onto, lines, lineLength, afterLine, sameBytes, sizeRight, headed}
 use Rattle.text.specs.Text.{rowLines, nextIsLine, goodLines, linesRead, readAs, allPlaces, placesAs}
-use Rattle.text.specs.Grammar.{Row, rowOf, rowsAs}
+use Rattle.text.specs.Grammar.{rowOf, rowsAs}
 use Rattle.cursor.specs.Names.{nameAtPlace, namesAt}
 
 unfoldable pub cardHeader : List ℕ

@@ -12,7 +12,7 @@ use Rattle.fold.proofs.BoolLaws.{and-left, and-right}
 use Rattle.cursor.specs.declared.Column.{Column}
 use Rattle.cursor.specs.declared.Column.the-variants.{Numbers, Names}
 use Rattle.cursor.specs.Bytes.{digitByte, passes, run}
-use Rattle.cursor.specs.Pieces.{digits, isNumber, numberOf, isName, nameLength, isComma, isCell, cellLength, afterCell}
+use Rattle.cursor.specs.Pieces.{digits, isNumber, isName, nameLength, isComma, isCell, cellLength, afterCell}
 use Rattle.text.specs.Line.{isEnd, areCells, cellNumbers, cellNames, isLine, numbersOf, namesOf}
 use Rattle.text.specs.Grammar.{Row, Cells, Line, rowOf}
 use Rattle.text.proofs.GrammarNumbers.{number-sound, number-complete}

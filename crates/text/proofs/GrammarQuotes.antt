@@ -10,14 +10,13 @@ use lib.Dec.{leb, eqb}
 use lib.ListN.{length, getD}
 use borrow.Author.Tests.{ne-eqb, eqb-true, eqb-false, not-true}
 use Rattle.fold.specs.declared.Found.the-variants.{At, Nothing}
-use Rattle.fold.proofs.BoolLaws.{and-right, passes-or-fails}
+use Rattle.fold.proofs.BoolLaws.{and-right, passes-or-fails, zero-not-one}
 use Rattle.cursor.specs.Bytes.{plainByte, bareByte}
 use Rattle.cursor.specs.Pieces.{plainPart, quotePart}
-use Rattle.cursor.proofs.NameLaws.{clash}
 use Rattle.text.specs.Grammar.{Body, empty, plain, doubled}
 
 pub impossible : {P : Type 0} {n : ℕ} → Nothing ≡ At n → P
-impossible e = clash (cc)
+impossible e = absurd (zero-not-one cc)
 
 pub same-place : {m n : ℕ} → At m ≡ At n → m ≡ n
 same-place e = cc

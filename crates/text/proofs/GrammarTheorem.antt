@@ -11,10 +11,9 @@ use lib.Dec.{eqb}
 use lib.ListN.{length, take, drop, getD, drop-of-length-le, length-map}
 use lib.Seq.{getD-drop, drop-append-add, take-append-seam, take-length}
 use borrow.Author.Tests.{eqb-true, eq-eqb, eqb-false}
-use Rattle.fold.proofs.BoolLaws.{passes-or-fails, not-both}
+use Rattle.fold.proofs.BoolLaws.{passes-or-fails, not-both, zero-not-one}
 use Rattle.cursor.specs.declared.Column.{Column}
 use Rattle.cursor.specs.Bytes.{run}
-use Rattle.cursor.proofs.NameLaws.{clash}
 use Rattle.cursor.proofs.RunLaws.{run-length, run-end, run-at}
 use Rattle.text.specs.declared.Reading.the-variants.{BadLine, Rows}
 use Rattle.text.specs.Line.{isLine}
@@ -40,7 +39,7 @@ lines-accepted ks k ls n =
     ⊎-elim
     (λ (p : eqb (goodLines ks ls) (length ls) ≡ true).
     rw p (λ (e : Rows (goodLines ks ls) ≡ Rows n). let q = eqb-true (goodLines ks ls) (length ls) p in let m : goodLines ks ls ≡ n = cc in (q, omega arith)))
-    (λ (p : eqb (goodLines ks ls) (length ls) ≡ false). rw p (λ (e : BadLine (k + goodLines ks ls) ≡ Rows n). clash (cc)))
+    (λ (p : eqb (goodLines ks ls) (length ls) ≡ false). rw p (λ (e : BadLine (k + goodLines ks ls) ≡ Rows n). absurd (zero-not-one cc)))
     (passes-or-fails (eqb (goodLines ks ls) (length ls)))
 
 module _ (h : List ℕ) (ks : List Column) (k : ℕ) (s : List ℕ) where
@@ -55,9 +54,9 @@ module _ (h : List ℕ) (ks : List Column) (k : ℕ) (s : List ℕ) where
       (λ e.
       let a = lines-accepted ks (k + 1) (rowLines s) n e in
       record { size = p; headed-is = q; head = same-equal (take (lineLength s) s) h q; good = a .0; count = a .1 }))
-      (λ (q : sameBytes (take (lineLength s) s) h ≡ false). rw (p, q) (λ (e : BadLine k ≡ Rows n). clash (cc)))
+      (λ (q : sameBytes (take (lineLength s) s) h ≡ false). rw (p, q) (λ (e : BadLine k ≡ Rows n). absurd (zero-not-one cc)))
       (passes-or-fails (sameBytes (take (lineLength s) s) h)))
-      (λ (p : sizeRight s ≡ false). rw p (λ (e : BadLine 0 ≡ Rows n). clash (cc)))
+      (λ (p : sizeRight s ≡ false). rw p (λ (e : BadLine 0 ≡ Rows n). absurd (zero-not-one cc)))
       (passes-or-fails (sizeRight s))
 
   -- Whatever the reading accepts is a text of the grammar, with as many rows as it says.
@@ -138,7 +137,7 @@ unfolding linesRead
 bad-lines ks k s j =
     ⊎-elim
     (λ (p : eqb (goodLines ks (rowLines s)) (length (rowLines s)) ≡ true).
-    rw p (λ (e : Rows (goodLines ks (rowLines s)) ≡ BadLine (k + j)). clash (cc)))
+    rw p (λ (e : Rows (goodLines ks (rowLines s)) ≡ BadLine (k + j)). absurd (zero-not-one cc)))
     (λ (p : eqb (goodLines ks (rowLines s)) (length (rowLines s)) ≡ false).
     rw p
     (λ (e : BadLine (k + goodLines ks (rowLines s)) ≡ BadLine (k + j)).

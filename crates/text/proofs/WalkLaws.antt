@@ -1,7 +1,7 @@
 -- Reading line after line: the lines read so far and the lines left make up all of them.
 use mathlib.Core.Path.{_≡_, refl, sym, ap, _∙_}
 use mathlib.Core.Bool.{true, false}
-use mathlib.Core.List.{List, [], _∷_, _++_}
+use mathlib.Core.List.{List, _++_}
 use Prim.Native.Nat.{ℕ, zero, suc, _+_, _*_, _/_, _≤_, _<_}
 use native.Mathlib.Nat.{add-zero, mul-zero}
 use native.Mathlib.Omega.{arith}
@@ -14,7 +14,7 @@ use Rattle.text.specs.declared.Columns.{Columns}
 use Rattle.text.specs.declared.LineRead.{LineRead}
 use Rattle.text.specs.declared.Reading.{Reading}
 use Rattle.text.specs.declared.Reading.the-variants.{BadLine, Rows}
-use Rattle.text.specs.Line.{columnsOf, numberCount, placeCount, isLine, numbersOf, placesOf, lineRead}
+use Rattle.text.specs.Line.{columnsOf, numberCount, placeCount, numbersOf, placesOf, lineRead}
 use Rattle.text.specs.Text.{lines, lineLength, goodLines, linesRead, allNumbers, allPlaces, keptIn, keptFront, blocksOver, LinesTaken}
 use Rattle.text.proofs.BlockLaws.{block-behind, kept-next, kept-start}
 use Rattle.text.proofs.ColumnLaws.{numbers-long, places-long}

@@ -4,7 +4,7 @@ use native.Mathlib.Omega.{arith}
 use lib.ListN.{length}
 use denote.Ref.{now}
 use borrow.Author.Needs.{needs}
-use Rattle.text.proofs.BlockLaws.{block-inside, room-inside, kept-empty, kept-below, kept-above}
+use Rattle.text.proofs.BlockLaws.{room-inside, kept-empty, kept-below, kept-above}
 use Rattle.text.proofs.keep.keep.Statement.{statement}
 use Rattle.text.proofs.keep.keep.Tie as tie
 

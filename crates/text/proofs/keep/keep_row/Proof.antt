@@ -1,5 +1,5 @@
 -- `keep_row` meets its contract: the two calls of `keep` write one buffer each.
-use mathlib.Core.Path.{_≡_, sym, _∙_}
+use mathlib.Core.Path.{_≡_, sym}
 use mathlib.Core.Bool.{Bool, true, false, cond}
 use Prim.Native.Nat.{_≤_}
 use native.Mathlib.Omega.{arith}

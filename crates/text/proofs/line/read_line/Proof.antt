@@ -1,6 +1,6 @@
 -- `read_line` meets its contract. The loop's invariant: the cells read and the cells left make up the line. The measure is the number of
 -- columns left.
-use mathlib.Core.Path.{sym, _∙_}
+use mathlib.Core.Path.{_∙_}
 use Prim.Native.Nat.{_-_, _≤_}
 use native.Mathlib.Omega.{arith}
 use lib.ListN.{length}
