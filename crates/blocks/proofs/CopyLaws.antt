@@ -1,5 +1,4 @@
 -- The loop that copies a block into a buffer: after j turns the first j of the block stand there. One law for numbers and bytes.
--- Assumes nothing.
 use mathlib.Core.Path.{_≡_, refl}
 use mathlib.Core.List.{List}
 use Prim.Native.Nat.{ℕ, _+_, _≤_, _<_}

@@ -46,7 +46,8 @@ pub number-is : (column : Column) (c d : Cursor) (l : List ℕ) (v : ℕ) → Nu
 unfolding cellAt numberAt isCell cellLength
 number-is Numbers c d l v = by-test (isNumber l) refl
   where
-    by-test : (t : Bool) → isNumber l ≡ t → NumberCell v d ≡ cond t (NumberCell (numberOf l) (moved c (digits l))) NoCell → NumberIs Numbers (c .at) l v d
+    by-test :
+        (t : Bool) → isNumber l ≡ t → NumberCell v d ≡ cond t (NumberCell (numberOf l) (moved c (digits l))) NoCell → NumberIs Numbers (c .at) l v d
     by-test true n e =
         let p : d ≡ moved c (digits l) = cc in
         record { is = refl; cell = record { is-cell = n; past = ap (λ (q : Cursor). q .at) p }; value = cc }

@@ -22,7 +22,8 @@ module _ (s : List ℕ) (i : ℕ) where
       let d : drop i s ≡ getD s i 0 ∷ drop (i + 1) s = rw (add-one i, drop-cons s i 0) in
       rw (d, eq-eqb (getD s i 0) 34 e)
 
-  pub plain-more : i < length s → (getD s i 0 ≡ 34 → ⊥) → plainByte (getD s i 0) ≡ true → plainPart i (drop i s) ≡ plainPart (i + 1) (drop (i + 1) s)
+  pub plain-more :
+      i < length s → (getD s i 0 ≡ 34 → ⊥) → plainByte (getD s i 0) ≡ true → plainPart i (drop i s) ≡ plainPart (i + 1) (drop (i + 1) s)
   unfolding plainPart
   plain-more h n p =
       let d : drop i s ≡ getD s i 0 ∷ drop (i + 1) s = rw (add-one i, drop-cons s i 0) in

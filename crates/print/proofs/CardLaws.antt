@@ -47,7 +47,8 @@ partly-none s places card n out at =
     }
 
 module _
-    (s places card : List ℕ) (n : ℕ) (out : List ℕ) (at : ℕ) (out′ : List ℕ) (next i : ℕ) (fit : RowsFit (length s) places (length card) n at (length out))
+    (s places card : List ℕ) (n : ℕ) (out : List ℕ) (at : ℕ) (out′ : List ℕ) (next i : ℕ)
+    (fit : RowsFit (length s) places (length card) n at (length out))
     (h : Partly s places card n out at out′ next i) where
   pub row-fits : i < n → RowFits (length s) places (length card) i next (length out′)
   row-fits l =

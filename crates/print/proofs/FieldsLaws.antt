@@ -49,7 +49,8 @@ module _ (m : ℕ) (out : List ℕ) (at : ℕ) (values : List ℕ) (from : ℕ) 
       rw (e, getD-drop (from + k) values 0 0, add-zero (from + k), drop-drop 1 (from + k) values, add-assoc from k 1)
 
   pub partly-more :
-      (out″ : List ℕ) (r : ℕ) → k < m → at + m * fieldMost ≤ length out → Wrote out′ next (44 ∷ numberText (getD values (from + k) 0)) out″ r →
+      (out″ : List ℕ) (r : ℕ) → k < m → at + m * fieldMost ≤ length out → Wrote out′ next
+      (44 ∷ numberText (getD values (from + k) 0)) out″ r →
       length out″ ≡ length out′ → Partly m out at values from out″ r (k + 1)
   partly-more out″ r l room w same =
       let f : List ℕ = 44 ∷ numberText (getD values (from + k) 0) in

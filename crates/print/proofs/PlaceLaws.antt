@@ -109,7 +109,8 @@ module _ (size : ℕ) (places : List ℕ) (card n room : ℕ) where
   no-names h k l = rw (le-leb headerSize room h, le-leb n ((room - headerSize) / lineMost) k, lt-leb n (length places / 2) l)
 
   pub no-numbers :
-      headerSize ≤ room → n ≤ (room - headerSize) / lineMost → n ≤ length places / 2 → card / columnCount < n → false ≡ printable size places card n room
+      headerSize ≤ room → n ≤ (room - headerSize) / lineMost → n ≤ length places / 2 → card / columnCount < n → false ≡ printable size
+      places card n room
   unfolding printable
   no-numbers h k l m =
       rw (le-leb headerSize room h, le-leb n ((room - headerSize) / lineMost) k, le-leb n (length places / 2) l, lt-leb n (card / columnCount) m)

@@ -25,7 +25,8 @@ use Rattle.print.proofs.WriteLaws.{written-none, wrote-then}
 use Rattle.print.proofs.CardLaws.{line-short}
 
 -- what was written from the start on is printed
-pub wrote-printed : (out xs out′ : List ℕ) (r : ℕ) → length xs ≤ length out → length out′ ≡ length out → Wrote out 0 xs out′ r → Printed out xs out′ r
+pub wrote-printed :
+    (out xs out′ : List ℕ) (r : ℕ) → length xs ≤ length out → length out′ ≡ length out → Wrote out 0 xs out′ r → Printed out xs out′ r
 unfolding written
 wrote-printed out xs out′ r h k w =
     let e : r ≡ length xs = omega (arith, w .end) in
@@ -108,7 +109,8 @@ card-short s places card n h =
 pub card-all :
     (s places card : List ℕ) (n : ℕ) (out o₁ o₂ : List ℕ) (r₁ r₂ : ℕ) →
     printable (length s) places (length card) n (length out) ≡ true → length o₂ ≡ length out →
-    Wrote out 0 cardHeader o₁ r₁ → Wrote o₁ r₁ (rowsText (namesAt s n places) card) o₂ r₂ → Printed out (cardPrinted s places card n (length out)) o₂ r₂
+    Wrote out 0 cardHeader o₁ r₁ → Wrote o₁ r₁ (rowsText (namesAt s n places) card) o₂ r₂ → Printed out
+    (cardPrinted s places card n (length out)) o₂ r₂
 unfolding cardPrinted cardText
 card-all s places card n out o₁ o₂ r₁ r₂ h same w₁ w₂ =
     let room = printable-room (length s) places (length card) n (length out) h in

@@ -62,5 +62,6 @@ wrote-one out at v h = record { bytes = written-one out at v h; end = refl }
 pub wrote-two : (out : List ℕ) (at v : ℕ) → at + 1 < length out → Wrote out (at + 1) (v ∷ []) (set out (at + 1) v) (at + 2)
 wrote-two out at v h = record { bytes = written-one out (at + 1) v h; end = omega arith }
 
-pub wrote-long : (out : List ℕ) (at : ℕ) (xs out′ : List ℕ) (r : ℕ) → at + length xs ≤ length out → Wrote out at xs out′ r → length out′ ≡ length out
+pub wrote-long :
+    (out : List ℕ) (at : ℕ) (xs out′ : List ℕ) (r : ℕ) → at + length xs ≤ length out → Wrote out at xs out′ r → length out′ ≡ length out
 wrote-long out at xs out′ r h w = ap length (w .bytes) ∙ written-long out at xs h

@@ -24,7 +24,8 @@ use Rattle.sheet.proofs.SheetLaws.{many-count}
 refused-short : (given : List ℕ) → length (refusedWith given .text) ≤ sheetMost
 refused-short given = omega (arith, refusal-short given)
 
-with-short : (names : List (List ℕ)) (card given : List ℕ) → length (cardText names card) ≤ sheetMost → length (sheetWith names card given .text) ≤ sheetMost
+with-short :
+    (names : List (List ℕ)) (card given : List ℕ) → length (cardText names card) ≤ sheetMost → length (sheetWith names card given .text) ≤ sheetMost
 unfolding sheetWith
 with-short names card given h = by-test (done given)
   where

@@ -47,7 +47,8 @@ given-complete = current.gives-current
 
 -- In powers of two: m * 2 ^ -(t + 1) times the scale is the fraction m * scale / 2 ^ (t + 1), which is rounded; m * 2 ^ t times the scale is a whole
 -- number, which is kept.
-pub fraction-rounded : (to : Rounding) (m t scale k : ℕ) → currentOf to (fin false m (negsuc t)) scale ≡ Milliamperes k → Rounds to (m * scale) (2 ^ suc t) k
+pub fraction-rounded :
+    (to : Rounding) (m t scale k : ℕ) → currentOf to (fin false m (negsuc t)) scale ≡ Milliamperes k → Rounds to (m * scale) (2 ^ suc t) k
 fraction-rounded to m t scale k h = subst (λ (n : ℕ). Rounds to (n * scale) (2 ^ suc t) k) (mul-one m) (given-sound to (fin false m (negsuc t)) scale k h .1)
 
 pub whole-number-kept : (to : Rounding) (m t scale k : ℕ) → currentOf to (fin false m (pos t)) scale ≡ Milliamperes k → k ≡ m * 2 ^ t * scale
@@ -98,7 +99,8 @@ answered s =
 
 -- the singles of those examples by their bits: 0.5, 100, the next above 100, 13,421,773 / 2 ^ 27 and the smallest positive one, 2 ^ -149
 pub example-singles : map (ofBits binary32) (0x3f00_0000 ∷ 0x42c8_0000 ∷ 0x42c8_0001 ∷ 0x3dcc_cccd ∷ 1 ∷ [])
-    ≡ fin false 1 (negsuc 0) ∷ fin false 25 (pos 2) ∷ fin false 13107201 (negsuc 16) ∷ fin false 13421773 (negsuc 26) ∷ fin false 1 (negsuc 148) ∷ []
+    ≡ fin false 1 (negsuc 0) ∷ fin false 25 (pos 2) ∷ fin false 13107201 (negsuc 16) ∷ fin false 13421773 (negsuc 26) ∷ fin false 1
+    (negsuc 148) ∷ []
 unfolding ofBits
 example-singles = refl
 

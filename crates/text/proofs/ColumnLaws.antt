@@ -97,7 +97,8 @@ cell-places-long [] i l = refl
 cell-places-long (Numbers ∷ ks) i l = cell-places-long ks (i + cellLength Numbers (drop 1 l) + 1) (afterCell Numbers l)
 cell-places-long (Names ∷ ks) i l = let e = cell-places-long ks (i + cellLength Names (drop 1 l) + 1) (afterCell Names l) in omega arith
 
-numbers-before : (a : ℕ) (ks : List Column) → (numbersIn (replicate a Numbers ++ ks) ≡ a + numbersIn ks) × (namesIn (replicate a Numbers ++ ks) ≡ namesIn ks)
+numbers-before :
+    (a : ℕ) (ks : List Column) → (numbersIn (replicate a Numbers ++ ks) ≡ a + numbersIn ks) × (namesIn (replicate a Numbers ++ ks) ≡ namesIn ks)
 numbers-before zero ks = (omega arith, refl)
 numbers-before (suc a) ks = let h = numbers-before a ks in (let e = h .0 in omega arith, h .1)
 

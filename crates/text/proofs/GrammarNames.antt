@@ -103,7 +103,9 @@ bare-end-suc : (n : ℕ) → bareEnd 0 (suc n) ≡ At (suc n)
 unfolding bareEnd
 bare-end-suc n = rw (ne-eqb (suc n) 0 (λ z. omega arith), zero-add (suc n))
 
-form-complete : {w : List ℕ} → Form w → (u : List ℕ) → 1 ≤ length w → (getD u 0 0 ≡ 34 → ⊥) → run (passes Bare) u ≡ 0 → nameEnd 0 (w ++ u) ≡ At (length w)
+form-complete :
+    {w : List ℕ} → Form w → (u : List ℕ) → 1 ≤ length w → (getD u 0 0 ≡ 34 → ⊥) → run (passes Bare) u ≡ 0 → nameEnd 0
+    (w ++ u) ≡ At (length w)
 unfolding nameEnd
 form-complete (bare {w} h) u s q z = of-bare w h s
   where

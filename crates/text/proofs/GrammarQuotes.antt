@@ -77,7 +77,8 @@ parts-sound (b ∷ l) i e =
           place = omega (arith, d .place);
         }
 
-    of-plain : PartsSound (i + 1) e l → cond (eqb b 34) (quotePart (i + 1) l) (cond (plainByte b) (plainPart (i + 1) l) Nothing) ≡ At e → Closed i e (b ∷ l)
+    of-plain :
+        PartsSound (i + 1) e l → cond (eqb b 34) (quotePart (i + 1) l) (cond (plainByte b) (plainPart (i + 1) l) Nothing) ≡ At e → Closed i e (b ∷ l)
     of-plain h =
         ⊎-elim
         (λ (p : eqb b 34 ≡ true). rw p (λ q. after-quote (eqb-true b 34 p) (h .quote-part q)))
@@ -102,7 +103,8 @@ unfolding quotePart
 quote-ends [] i h = refl
 quote-ends (b ∷ u) i h = rw (ne-eqb b 34 h)
 
-pub body-complete : {w : List ℕ} → Body w → (u : List ℕ) → (getD u 0 0 ≡ 34 → ⊥) → (i : ℕ) → plainPart i (w ++ 34 ∷ u) ≡ At (i + length w + 1)
+pub body-complete :
+    {w : List ℕ} → Body w → (u : List ℕ) → (getD u 0 0 ≡ 34 → ⊥) → (i : ℕ) → plainPart i (w ++ 34 ∷ u) ≡ At (i + length w + 1)
 unfolding plainPart
 body-complete empty u h i = quote-ends u (i + 1) h ∙ ap (λ (k : ℕ). At (k + 1)) (sym (add-zero i))
 body-complete (plain {b} {l} p r) u h i =

@@ -20,7 +20,8 @@ module _ (f : ℕ → Bool) (ok : List ℕ → Bool) where
       by-test false e h = tt
 
   -- the test asks at most what f asks of the first byte
-  pub run-append : ((b : ℕ) (l : List ℕ) → f b ≡ true → ok (b ∷ l) ≡ true) → (w v : List ℕ) → All f w → run ok (w ++ v) ≡ length w + run ok v
+  pub run-append :
+      ((b : ℕ) (l : List ℕ) → f b ≡ true → ok (b ∷ l) ≡ true) → (w v : List ℕ) → All f w → run ok (w ++ v) ≡ length w + run ok v
   unfolding run
   run-append first [] v h = sym (zero-add (run ok v))
   run-append first (b ∷ w) v h = rw (first b (w ++ v) (h .0), run-append first w v (h .1)) (sym (suc-add (length w) (run ok v)))

@@ -90,7 +90,8 @@ abbrev pub AllLines : List Column → List ℕ → Type 0
 AllLines ks s = goodLines ks (lines s) ≡ length (lines s) → Lines ks s (map (rowOf ks) (lines s))
 
 -- the first line, and the shorter text behind it
-lines-sound-step : (ks : List Column) (n : ℕ) (s : List ℕ) → length s ≤ suc n → ((t : List ℕ) → length t ≤ n → AllLines ks t) → AllLines ks s
+lines-sound-step :
+    (ks : List Column) (n : ℕ) (s : List ℕ) → length s ≤ suc n → ((t : List ℕ) → length t ≤ n → AllLines ks t) → AllLines ks s
 lines-sound-step ks n [] k f h = no-lines ks
 lines-sound-step ks n (b ∷ s) k f h =
     let first = take (lineLength (b ∷ s)) (b ∷ s) in

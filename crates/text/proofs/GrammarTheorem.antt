@@ -33,12 +33,14 @@ pub record Accepted (h : List ℕ) (ks : List Column) (s : List ℕ) (n : ℕ) :
   pub good : goodLines ks (rowLines s) ≡ length (rowLines s)
   pub count : length (rowLines s) ≡ n
 
-lines-accepted : (ks : List Column) (k : ℕ) (ls : List (List ℕ)) (n : ℕ) → linesRead ks k ls ≡ Rows n → (goodLines ks ls ≡ length ls) × (length ls ≡ n)
+lines-accepted :
+    (ks : List Column) (k : ℕ) (ls : List (List ℕ)) (n : ℕ) → linesRead ks k ls ≡ Rows n → (goodLines ks ls ≡ length ls) × (length ls ≡ n)
 unfolding linesRead
 lines-accepted ks k ls n =
     ⊎-elim
     (λ (p : eqb (goodLines ks ls) (length ls) ≡ true).
-    rw p (λ (e : Rows (goodLines ks ls) ≡ Rows n). let q = eqb-true (goodLines ks ls) (length ls) p in let m : goodLines ks ls ≡ n = cc in (q, omega arith)))
+    rw p (λ (e : Rows (goodLines ks ls) ≡ Rows n). let q = eqb-true (goodLines ks ls) (length ls) p in let m : goodLines ks ls ≡ n = cc in
+    (q, omega arith)))
     (λ (p : eqb (goodLines ks ls) (length ls) ≡ false). rw p (λ (e : BadLine (k + goodLines ks ls) ≡ Rows n). absurd (zero-not-one cc)))
     (passes-or-fails (eqb (goodLines ks ls) (length ls)))
 
@@ -84,7 +86,8 @@ module _ (h : List ℕ) (ks : List Column) (k : ℕ) (s : List ℕ) where
 
 -- a text of that first line, with these rows behind it
 accepts :
-    (h : List ℕ) (ks : List Column) (k : ℕ) (s rest : List ℕ) (rs : List Row) → length s ≤ textMost → take (lineLength s) s ≡ h → afterLine s ≡ rest →
+    (h : List ℕ) (ks : List Column) (k : ℕ) (s rest : List ℕ) (rs : List Row) → length s ≤ textMost → take (lineLength s) s ≡ h →
+    afterLine s ≡ rest →
     RowsThere ks (lines rest) rs → (readAs h ks k s ≡ Rows (length rs)) × (rowsAs ks s ≡ rs)
 unfolding readAs headed rowLines linesRead rowsAs
 accepts h ks k s rest rs l e f t =
@@ -115,7 +118,8 @@ unfolding nextIsLine
 line-at ks ls i = rw (getD-drop i ls 0 [], add-zero i)
 
 first-bad :
-    (ks : List Column) (s : List ℕ) (j : ℕ) → goodLines ks (rowLines s) ≡ j → (goodLines ks (rowLines s) ≡ length (rowLines s) → ⊥) → FirstBad ks s j
+    (ks : List Column) (s : List ℕ) (j : ℕ) → goodLines ks (rowLines s) ≡ j →
+    (goodLines ks (rowLines s) ≡ length (rowLines s) → ⊥) → FirstBad ks s j
 unfolding goodLines
 first-bad ks s j e n =
     let q = run-length (nextIsLine ks) [] (rowLines s) in

@@ -24,7 +24,8 @@ unfolding namesAt
 stand-none s = record { inside = tt; long = refl; are = refl }
 
 pub stand-one :
-    (s : List ℕ) (a n : ℕ) (v : List ℕ) (ps : List ℕ) (vs : List (List ℕ)) → n ≤ nameMost → a + n ≤ length s → take n (drop a s) ≡ v → Stand s ps vs →
+    (s : List ℕ) (a n : ℕ) (v : List ℕ) (ps : List ℕ) (vs : List (List ℕ)) → n ≤ nameMost → a + n ≤ length s → take n
+    (drop a s) ≡ v → Stand s ps vs →
     Stand s (a ∷ n ∷ ps) (v ∷ vs)
 unfolding namesAt nameAtPlace
 stand-one s a n v ps vs short fits e h =

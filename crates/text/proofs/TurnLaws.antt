@@ -49,7 +49,8 @@ module _ (b : Columns) (s : List ℕ) (at : ℕ) (numbers place : List ℕ) (c :
 
   -- behind the first cell no comma is put before what is left
   later :
-      (x : Column) (d : Cursor) (numbers′ place′ : List ℕ) (n′ : ℕ) → d .at ≡ start + cellLength x (drop 1 rest) → afterCell x rest ≡ drop (d .at) s →
+      (x : Column) (d : Cursor) (numbers′ place′ : List ℕ) (n′ : ℕ) → d .at ≡ start + cellLength x (drop 1 rest) → afterCell x
+      rest ≡ drop (d .at) s →
       Reads ks at (44 ∷ drop at s) numbers′ place′ (drop (k + 1) ks) (start + cellLength x (drop 1 rest) + 1) (afterCell x rest) n′ →
       ReadTo ks s at numbers′ place′ d (k + 1) n′
   unfolding ks
@@ -112,7 +113,8 @@ unfolding isEnd
 end-not-there s i h = rw (length-drop i s) (ne-eqb (length s - i) 0 (λ z. omega arith))
 
 module _
-    (b : Columns) (s : List ℕ) (at : ℕ) (numbers place : List ℕ) (c : Cursor) (k n : ℕ) (u : Usable b) (h : ReadTo (columnsOf b) s at numbers place c k n)
+    (b : Columns) (s : List ℕ) (at : ℕ) (numbers place : List ℕ) (c : Cursor) (k n : ℕ) (u : Usable b)
+    (h : ReadTo (columnsOf b) s at numbers place c k n)
     (all : length (columnsOf b) ≤ k) where
   last : Reads (columnsOf b) at (44 ∷ drop at s) numbers place [] (c .at + 1) (drop (c .at) s) n
   last =

@@ -1,5 +1,4 @@
 -- `blocks::put` meets its contract: the loop has copied the first j numbers. The measure is what is left of the block.
--- Assumes nothing.
 use Prim.Native.Nat.{_-_}
 use native.Mathlib.Omega.{arith}
 use lib.ListN.{length}

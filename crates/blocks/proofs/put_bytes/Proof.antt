@@ -1,5 +1,4 @@
 -- `blocks::put_bytes` meets its contract: the loop has copied the first j bytes. The measure is what is left of the block.
--- Assumes nothing.
 use Prim.Native.Nat.{_-_}
 use native.Mathlib.Omega.{arith}
 use lib.ListN.{length}

@@ -1,4 +1,4 @@
--- `above` gives the row that feeds row j, or the number of rows: field 2 tells which. Assumes nothing.
+-- `above` gives the row that feeds row j, or the number of rows: field 2 tells which.
 use borrow.Author.Needs.{needs}
 use Rattle.path.proofs.PathLaws.{above-source, above-fed}
 use Rattle.path.proofs.above.Statement.{statement}

@@ -1,4 +1,4 @@
--- `push_rest` counts every row off the path with the numbers found on the card. The loop's invariant is `Resting`. Assumes nothing.
+-- `push_rest` counts every row off the path with the numbers found on the card. The loop's invariant is `Resting`.
 use mathlib.Core.Logic.{⊎-elim}
 use mathlib.Core.Path.{_∙_}
 use Prim.Native.Nat.{_-_}

@@ -1,4 +1,4 @@
--- `test_card` names the first card row out of range. Assumes nothing.
+-- `test_card` names the first card row out of range.
 use mathlib.Core.Path.{sym, _∙_}
 use native.Mathlib.Omega.{arith}
 use borrow.Author.Needs.{needs}

@@ -28,7 +28,8 @@ refused-requires c κs = search needs
 returns : tie.Need-returns
 returns c =
     let s = c .before .before .before .before .before .args .s in
-    c .refused .ensures ∙ sym (by-rated s false (ratedFits (s .least)) (sym (c .before .before .rated-fits .ensures) ∙ not-true _ (c .before .if1 .taken)) refl)
+    c .refused .ensures ∙ sym (by-rated s false (ratedFits (s .least))
+    (sym (c .before .before .rated-fits .ensures) ∙ not-true _ (c .before .if1 .taken)) refl)
 
 rated-fits-requires-2 : tie.Need-rated-fits-requires-2
 rated-fits-requires-2 c κs = search needs

@@ -14,7 +14,8 @@ use Rattle.surfpocket.proofs.surfpocket_study.Tie as tie
 no-greatest : {a : SurfpocketStudy} {g : InUnit} (r : ℕ) (l : InUnit) (t : ℕ) → g ≡ Unknown → a ≡ handed (refusedAt 0) → a ≡ studyOf g r l t
 no-greatest r l t p h = rw p h
 
-no-least : {a : SurfpocketStudy} {g l : InUnit} {x : Quantity} (r t : ℕ) → g ≡ Known x → l ≡ Unknown → a ≡ handed (refusedAt 0) → a ≡ studyOf g r l t
+no-least :
+    {a : SurfpocketStudy} {g l : InUnit} {x : Quantity} (r t : ℕ) → g ≡ Known x → l ≡ Unknown → a ≡ handed (refusedAt 0) → a ≡ studyOf g r l t
 no-least r t p q h = rw (p, q) h
 
 both : {a : SurfpocketStudy} {g l : InUnit} {x y : Quantity} (r t : ℕ) → g ≡ Known x → l ≡ Known y
