@@ -1,4 +1,4 @@
--- In the text of a list that was read whole the numbers fill 18 a row, and each row's name stands where its place says.
+-- In the text of a list that was read whole the numbers fill their rows, and each row's name stands where its place says.
 use mathlib.Core.Path.{_≡_, refl, ap, subst, _∙_}
 use mathlib.Core.Bool.{true}
 use mathlib.Core.List.{List, [], _∷_}
@@ -16,22 +16,22 @@ use Rattle.text.proofs.PlaceLaws.{names-stand}
 use Rattle.text.proofs.StandLaws.{Stand, PlaceInside, inside-at}
 use Rattle.list.specs.Header.{header}
 use Rattle.layout.specs.Counts.{fieldCount}
-use Rattle.list.specs.List.{listColumns, reading, rowsOf, rowsRead, rowNumbers, rowPlaces}
+use Rattle.list.specs.List.{listLayout, listColumns, reading, rowsOf, rowsRead, rowNumbers, rowPlaces}
 
--- a line has 18 numbers and one place
+-- a line has a row's numbers and one place
 numbers-length : (ls : List (List ℕ)) → length (allNumbers listColumns ls) ≡ length ls * fieldCount
 unfolding allNumbers
 numbers-length [] = refl
 numbers-length (l ∷ ls) =
     length-append (numbersOf listColumns l) (allNumbers listColumns ls) ∙
-    (let a = numbers-long (record { before = 1; named = true; after = 17 }) l in let b = numbers-length ls in omega arith)
+    (let a = numbers-long listLayout l in let b = numbers-length ls in omega arith)
 
 places-length : (i : ℕ) (ls : List (List ℕ)) → length (allPlaces listColumns i ls) ≡ length ls * 2
 unfolding allPlaces
 places-length i [] = refl
 places-length i (l ∷ ls) =
     length-append (placesOf listColumns i l) (allPlaces listColumns (i + length l + 2) ls) ∙
-    (let a = places-long (record { before = 1; named = true; after = 17 }) i l in let b = places-length (i + length l + 2) ls in omega arith)
+    (let a = places-long listLayout i l in let b = places-length (i + length l + 2) ls in omega arith)
 
 -- the rows of a text that was read whole
 pub record RowsStand (s : List ℕ) (n : ℕ) : Type 0 where

@@ -1,10 +1,11 @@
--- The text of a list: 19 columns, the fields of section 2 with the name behind the first [01 §6]. Definitions only.
+-- The text of a list: the fields of section 2 with the name behind the first [01 §6]. Definitions only.
 use mathlib.Core.Path.{_≡_}
 use mathlib.Core.Bool.{true}
 use mathlib.Core.List.{List}
 use Prim.Native.Nat.{ℕ, _-_, _/_}
 use lib.ListN.{length}
 use Rattle.cursor.specs.declared.Column.{Column}
+use Rattle.text.specs.declared.Columns.{Columns}
 use Rattle.text.specs.declared.Reading.{Reading}
 use Rattle.text.specs.Line.{columnsOf}
 use Rattle.text.specs.Grammar.{Row, Text, rowsAs}
@@ -13,8 +14,11 @@ use Rattle.layout.specs.Counts.{fieldCount}
 use Rattle.list.specs.Header.{header}
 
 -- the row's own number, its name, the other fields
+abbrev pub listLayout : Columns
+listLayout = record { before = 1; named = true; after = fieldCount - 1 }
+
 abbrev pub listColumns : List Column
-listColumns = columnsOf (record { before = 1; named = true; after = fieldCount - 1 })
+listColumns = columnsOf listLayout
 
 -- a well-formed text of a list, and the rows that it says
 abbrev pub ListText : List ℕ → List Row → Type 0
