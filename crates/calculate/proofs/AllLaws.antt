@@ -28,7 +28,7 @@ use Rattle.settle.proofs.SameLaws.{fed-below}
 use Rattle.rowwise.specs.Ready.{WorkReady, Stepped}
 use Rattle.rowwise.specs.Sums.{fedAt, stepBy, step}
 use Rattle.rowwise.specs.WorkOut.{Worked, refused, onSettled, workOut, upFrom}
-use Rattle.rowwise.specs.Working.{Working}
+use Rattle.rowwise.specs.Working.{Working, everyRow}
 use Rattle.rowwise.proofs.EndLaws.{never-passed, same-answer}
 use Rattle.rowwise.proofs.StartLaws.{work-start}
 use Rattle.rowwise.proofs.StepLaws.{pushed-length}
@@ -36,16 +36,13 @@ use Rattle.rowwise.proofs.WorkingLaws.{work-ready, work-settles, settled-to, wo
 use Rattle.calculate.specs.Ready.{AllReady}
 use Rattle.calculate.specs.Whole.{calculation, workedAs}
 
--- the rows below i are done, and every row matters
+-- the rows below i are done
 abbrev pub below : ℕ → ℕ → Bool
 below i j = ltb j i
 
-abbrev every-row : ℕ → Bool
-every-row j = true
-
 pub record Passing (l c₀ s₀ c s : List ℕ) (i : ℕ) : Type 0 where
   pub within : i ≤ rows l
-  pub working : Working l (below i) every-row c s
+  pub working : Working l (below i) everyRow c s
   pub left : workOut l (upFrom i (rows l - i)) c ≡ calculation l c₀
   pub card-length : length c ≡ length c₀
   pub sums-length : length s ≡ length s₀
@@ -55,7 +52,7 @@ unfolding calculation
 all-start l n c s a =
     record {
       within = omega arith;
-      working = work-start l c s (a .unworked) (below 0) every-row (λ j. le-ltb j 0 (omega arith));
+      working = work-start l c s (a .unworked) (below 0) everyRow (λ j. le-ltb j 0 (omega arith));
       left = rw sub-zero;
       card-length = refl;
       sums-length = refl;
@@ -75,11 +72,11 @@ below-next i j =
 -- row i is the next to be worked out
 module _ (l c₀ s₀ c s : List ℕ) (i : ℕ) (v : Passing l c₀ s₀ c s i) (h : i < rows l) where
   pub all-ready : WorkReady l i c s
-  all-ready = work-ready l (below i) every-row c s (v .working) i h (λ f. refl) refl
+  all-ready = work-ready l (below i) everyRow c s (v .working) i h (λ f. refl) refl
 
   settles : settledBy (rowAt l i) (fedAt s i) ≡ settled (viewOf l) (cardRowAt c) i
   settles =
-      work-settles l (below i) every-row c s (v .working) i h refl
+      work-settles l (below i) everyRow c s (v .working) i h refl
       (λ j b g. lt-ltb j i (fed-below l (v .working .feeds) i j b g))
 
   -- what follows row i's settings
@@ -118,8 +115,8 @@ module _ (l c₀ s₀ c s : List ℕ) (i : ℕ) (v : Passing l c₀ s₀ c s i) 
           (record {
             within = omega arith;
             working =
-                work-next l (below i) every-row c s (v .working) i h (le-ltb i i (omega arith)) (below (i + 1)) (below-next i) every-row (λ j m. m) (shown o)
-                (settled-to l (below i) every-row c s (v .working) i h o (sym e));
+                work-next l (below i) everyRow c s (v .working) i h (le-ltb i i (omega arith)) (below (i + 1)) (below-next i) everyRow (λ j m. m) (shown o)
+                (settled-to l (below i) everyRow c s (v .working) i h o (sym e));
             left = sym (goes-on ∙ ap (λ (s : Settled). onSettled i s rest) e);
             card-length = putCardRow-length c i (shown o) ∙ v .card-length;
             sums-length = pushed-length (rowAt l i) (shown o) s ∙ v .sums-length;

@@ -15,14 +15,14 @@ use Rattle.rows.specs.Tests.{sizeTest, rowsTest}
 use Rattle.rows.proofs.InRangeLaws.{passed-feeds}
 use Rattle.rows.proofs.TestLaws.{SizeRight, size-passed}
 use Rattle.rowwise.specs.Sums.{askCount}
-use Rattle.rowwise.specs.WorkOut.{Worked}
+use Rattle.rowwise.specs.WorkOut.{Worked, onPassed}
 use Rattle.calculate.specs.Ready.{AllReady, Answered}
-use Rattle.calculate.specs.Whole.{ending, after, calculation, workedAs, whole}
+use Rattle.calculate.specs.Whole.{ending, calculation, workedAs, whole}
 use Rattle.calculate.proofs.FrameLaws.{framed, calculation-frame}
 
 module _ (l c : List ℕ) where
   pub answered-size : (t : Tested) (a : Answer) → t ≡ sizeTest (length l) (length c) → t ≡ Refused a → Answered (whole l c) a c
-  unfolding whole after
+  unfolding whole ending onPassed
   answered-size t a e f = rw (sym e ∙ f) (record { answer = refl; card = refl })
 
   module _ (s : Tested) (es : s ≡ sizeTest (length l) (length c)) (fs : s ≡ Passed) where
@@ -30,7 +30,7 @@ module _ (l c : List ℕ) where
     size = size-passed (length l) (length c) (sym es ∙ fs)
 
     pub answered-rows : (t : Tested) (a : Answer) → t ≡ rowsTest l → t ≡ Refused a → Answered (whole l c) a c
-    unfolding whole after
+    unfolding whole ending onPassed
     answered-rows t a e f = rw (sym es ∙ fs, sym e ∙ f) (record { answer = refl; card = refl })
 
     module _ (t : Tested) (et : t ≡ rowsTest l) (ft : t ≡ Passed) where
@@ -58,7 +58,7 @@ module _ (l c : List ℕ) where
 
       calculates :
           (z : List ℕ) (w : Worked) → cardMost ≤ length z → calculation l z ≡ w → whole l c ≡ ending c (framed (rows l * columnCount) c w)
-      unfolding whole after
+      unfolding whole ending onPassed
       calculates z w h e =
           rw (sym es ∙ fs, sym et ∙ ft)
           (ap (ending c)

@@ -39,10 +39,10 @@ use Rattle.settle.specs.Conditions.{staysClear, seesNear}
 use Rattle.settle.specs.Settle.{leastPickup, fitting, cutoffOf, printed, shown, settled}
 use Rattle.settle.proofs.OutcomeLaws.{outcome-set}
 use Rattle.settle.proofs.SameLaws.{fed-below}
-use Rattle.rowwise.specs.WorkOut.{Worked, finished, refused}
+use Rattle.rowwise.specs.WorkOut.{Worked, finished, refused, onPassed}
 use Rattle.calculate.specs.Meets.{PickupsMeet, DelaysMeet, Meets}
 use Rattle.calculate.specs.Refused.{RowSettled, RefusedAt}
-use Rattle.calculate.specs.Whole.{Result, ending, after, calculation, whole}
+use Rattle.calculate.specs.Whole.{Result, ending, calculation, whole}
 use Rattle.calculate.proofs.FrameLaws.{calculation-keeps}
 use Rattle.calculate.proofs.LeastLaws.{pickups-under, pickup-fits, delays-under, delay-fits}
 use Rattle.calculate.proofs.MeetsLaws.{settled-meets}
@@ -75,7 +75,7 @@ module _ (l c : List ℕ) (size : sizeTest (length l) (length c) ≡ Passed) (a 
   bounded j h = row-bounded l a j h
 
   calculates : whole l c ≡ ending c (calculation l c)
-  unfolding whole after
+  unfolding whole ending onPassed
   calculates = rw (size, in-range-passes l a b)
 
   -- a card is given exactly where the calculation finishes, and it is that card; any other list is refused by row
@@ -212,9 +212,9 @@ cutoff-fitted-exactly r k C = (λ e. to (leastPickup r (staysClear r)) refl e, �
 
 -- whatever is refused, the lent card is as it was lent
 kept-by :
-    (c : List ℕ) (t u : Tested) (w : Worked) → (after t c (after u c (ending c w)) .answer ≡ Done → ⊥) → after t c
-    (after u c (ending c w)) .card ≡ c
-unfolding after ending
+    (c : List ℕ) (t u : Tested) (w : Worked) → (ending c (onPassed t (onPassed u w)) .answer ≡ Done → ⊥) →
+    ending c (onPassed t (onPassed u w)) .card ≡ c
+unfolding ending onPassed
 kept-by c (Refused x) u w n = refl
 kept-by c Passed (Refused x) w n = refl
 kept-by c Passed Passed (finished c′) n = absurd (n refl)

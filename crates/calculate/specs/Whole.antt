@@ -10,7 +10,7 @@ use Rattle.answers.specs.declared.Tested.{Tested}
 use Rattle.answers.specs.declared.Tested.the-variants.{Passed, Refused}
 use Rattle.layout.specs.List.{rows}
 use Rattle.rows.specs.Tests.{sizeTest, rowsTest}
-use Rattle.rowwise.specs.WorkOut.{Worked, finished, refused, workOut, upFrom}
+use Rattle.rowwise.specs.WorkOut.{Worked, finished, refused, workOut, upFrom, onPassed}
 
 pub record Result : Type 0 where
   pub answer : Answer
@@ -20,11 +20,6 @@ pub record Result : Type 0 where
 unfoldable pub ending : List ℕ → Worked → Result
 ending c (finished c′) = record { answer = Done; card = c′ }
 ending c (refused a) = record { answer = a; card = c }
-
--- a test passed goes on with what is next; a refusal leaves the card
-unfoldable pub after : Tested → List ℕ → Result → Result
-after Passed c next = next
-after (Refused a) c next = record { answer = a; card = c }
 
 -- every row worked out, in ascending order
 unfoldable pub calculation : List ℕ → List ℕ → Worked
@@ -36,4 +31,4 @@ workedAs Passed c = finished c
 workedAs (Refused a) c = refused a
 
 unfoldable pub whole : List ℕ → List ℕ → Result
-whole l c = after (sizeTest (length l) (length c)) c (after (rowsTest l) c (ending c (calculation l c)))
+whole l c = ending c (onPassed (sizeTest (length l) (length c)) (onPassed (rowsTest l) (calculation l c)))

@@ -29,23 +29,18 @@ use Rattle.settle.specs.declared.Cutoff.the-variants.{Fitted, NotFitted}
 use Rattle.settle.specs.Conditions.{seesNear, staysClear}
 use Rattle.settle.specs.Settle.{leastPickup, fitting, cutoffOf, printed, shown, settled}
 use Rattle.settle.proofs.OutcomeLaws.{outcome-set}
-use Rattle.rowwise.specs.WorkOut.{Worked, finished, refused}
-use Rattle.calculate.specs.Whole.{Result, ending, after, calculation, whole}
+use Rattle.rowwise.specs.WorkOut.{Worked, finished, refused, onPassed}
+use Rattle.calculate.specs.Whole.{Result, ending, calculation, whole}
 use Rattle.calculate.proofs.FrameLaws.{calculation-keeps}
 use Rattle.calculate.proofs.MeetsLaws.{pickup-least, delay-least}
 use Rattle.calculate.proofs.SettledLaws.{Settles, calculation-settled}
-use Rattle.change.specs.Replace.{onPassed}
 use Rattle.change.proofs.RefusalLaws.{Later, refuses-done, size-refuses, rows-later, work-later, passed-refused, passed-finished}
 use Rattle.path.proofs.CardTestLaws.{CardFits}
 
 -- the whole calculation, its size being right
 pub whole-as : (l c : List ℕ) → sizeTest (length l) (length c) ≡ Passed → whole l c ≡ ending c (onPassed (rowsTest l) (calculation l c))
-unfolding whole after ending onPassed
-whole-as l c e = rw e (by-cases (rowsTest l))
-  where
-    by-cases : (t : Tested) → after t c (ending c (calculation l c)) ≡ ending c (onPassed t (calculation l c))
-    by-cases Passed = refl
-    by-cases (Refused a) = refl
+unfolding whole onPassed
+whole-as l c e = rw e
 
 pub record Accepts (l c₀ c : List ℕ) : Type 0 where
   pub size : sizeTest (length l) (length c₀) ≡ Passed
@@ -57,7 +52,7 @@ unfolding calculation
 calculation-later l c = passed-refused _ _ Later (rows-later l) (work-later l _ c)
 
 pub accepts : (l c₀ c : List ℕ) → whole l c₀ ≡ record { answer = Done; card = c } → Accepts l c₀ c
-unfolding whole after ending
+unfolding whole onPassed ending
 accepts l c₀ c e = by-size (sizeTest (length l) (length c₀)) refl
   where
     by-work :

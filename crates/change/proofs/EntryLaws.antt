@@ -12,14 +12,14 @@ use Rattle.answers.specs.declared.Tested.the-variants.{Passed, Refused}
 use Rattle.answers.specs.Answer.{givenBy}
 use Rattle.rows.specs.Tests.{sizeTest, rowsTest}
 use Rattle.rows.proofs.TestLaws.{size-passed}
-use Rattle.rowwise.specs.WorkOut.{Worked, finished, refused, workOut}
+use Rattle.rowwise.specs.WorkOut.{Worked, finished, refused, workOut, onPassed}
 use Rattle.rowwise.proofs.EndLaws.{never-passed}
 use Rattle.path.specs.Path.{pathOf}
 use Rattle.change.specs.Edit.{PutReady}
 use Rattle.change.specs.Ready.{ExchangeReady, exchanged, Exchanged, Gave}
 use Rattle.path.specs.Ready.{PathReady, ReworkReady, testedOf, cardOf, Reworked}
 use Rattle.change.specs.Edit.{putList, editTest}
-use Rattle.change.specs.Replace.{onPassed, reworked, outcome, Replaced, replaced}
+use Rattle.change.specs.Replace.{reworked, outcome, Replaced, replaced}
 use Rattle.path.specs.CardTest.{cardTest}
 use Rattle.path.proofs.EndLaws.{reworked-refused}
 use Rattle.change.proofs.PutLaws.{put-back}

@@ -23,11 +23,11 @@ use Rattle.rows.proofs.InRangeLaws.{passed-feeds}
 use Rattle.settle.specs.declared.Settled.{Settled}
 use Rattle.settle.specs.declared.Settled.the-variants.{Set, Unset}
 use Rattle.settle.specs.Settle.{shown, settled}
-use Rattle.rowwise.specs.WorkOut.{Worked, finished, refused, onSettled, workOut}
+use Rattle.rowwise.specs.WorkOut.{Worked, finished, refused, onSettled, workOut, onPassed}
 use Rattle.rowwise.proofs.EndLaws.{never-finished}
 use Rattle.path.specs.Path.{pathOf, has, onPath}
 use Rattle.change.specs.Edit.{putList, editTest}
-use Rattle.change.specs.Replace.{onPassed, reworked, outcome, replaced}
+use Rattle.change.specs.Replace.{reworked, outcome, replaced}
 use Rattle.change.proofs.EditedLaws.{edited-rows, edited-is-row, edited-path}
 use Rattle.path.proofs.PathLaws.{on-within}
 use Rattle.change.proofs.RefusalLaws.{Refuses, refuses-done, size-refuses, edit-refuses, reworked-later, passed-refused, passed-finished}

@@ -22,10 +22,10 @@ use Rattle.rows.specs.Tests.{sizeTest, rowsTest, fieldAnswer, treeTest, treeAns
 use Rattle.settle.specs.declared.Settled.{Settled}
 use Rattle.settle.specs.declared.Settled.the-variants.{Set, Unset}
 use Rattle.settle.specs.Settle.{shown, settled}
-use Rattle.rowwise.specs.WorkOut.{Worked, finished, refused, onSettled, workOut}
+use Rattle.rowwise.specs.WorkOut.{Worked, finished, refused, onSettled, workOut, onPassed}
 use Rattle.rowwise.proofs.EndLaws.{never-passed, never-finished, same-answer, same-refusal}
 use Rattle.change.specs.Edit.{editRight, editTest}
-use Rattle.change.specs.Replace.{onPassed, reworked}
+use Rattle.change.specs.Replace.{reworked}
 use Rattle.path.specs.CardTest.{cardTest, cardAnswer}
 
 -- a refusal: its number is not 0

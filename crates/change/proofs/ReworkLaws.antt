@@ -6,6 +6,7 @@ use mathlib.Core.List.{List}
 use Prim.Native.Nat.{ℕ, _+_, _-_, _*_, _≤_, _<_}
 use lib.Dec.{eqb}
 use lib.ListN.{length, drop}
+use Rattle.rowwise.specs.WorkOut.{onPassed}
 use Rattle.fold.proofs.BoolLaws.{not-both}
 use Rattle.answers.specs.declared.Tested.{Tested}
 use Rattle.answers.specs.declared.Tested.the-variants.{Passed, Refused}
@@ -21,7 +22,7 @@ use Rattle.calculate.specs.Whole.{calculation}
 use Rattle.calculate.proofs.FrameLaws.{calculation-keeps}
 use Rattle.path.specs.Path.{onPath}
 use Rattle.change.specs.Edit.{putList}
-use Rattle.change.specs.Replace.{onPassed, reworked}
+use Rattle.change.specs.Replace.{reworked}
 use Rattle.path.specs.CardTest.{cardTest}
 use Rattle.change.proofs.AcceptLaws.{Accepts, settled-fits, accepted-room, accepted-length, rows-settled}
 use Rattle.change.proofs.EditedLaws.{edited-rows, edited-is-row, edited-row, edited-feeder}

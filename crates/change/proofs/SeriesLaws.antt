@@ -17,11 +17,11 @@ use Rattle.layout.specs.List.{rows}
 use Rattle.rows.specs.Tests.{sizeTest, rowsTest}
 use Rattle.rows.proofs.InRangeLaws.{passed-feeds}
 use Rattle.rows.proofs.TestLaws.{size-passed, size-right}
-use Rattle.rowwise.specs.WorkOut.{Worked, finished, refused}
+use Rattle.rowwise.specs.WorkOut.{Worked, finished, refused, onPassed}
 use Rattle.calculate.specs.Whole.{Result, ending, calculation, whole}
 use Rattle.calculate.proofs.FrameLaws.{framed, calculation-frame}
 use Rattle.change.specs.Edit.{putList, editRight}
-use Rattle.change.specs.Replace.{onPassed, reworked, Replaced, outcome, replaced}
+use Rattle.change.specs.Replace.{reworked, Replaced, outcome, replaced}
 use Rattle.change.specs.Series.{Entry, calculated, kept, entered}
 use Rattle.change.proofs.AcceptLaws.{whole-as, calculation-later, Accepts, accepts, accepted-length}
 use Rattle.change.proofs.EditedLaws.{edited-length}

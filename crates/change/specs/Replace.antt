@@ -9,15 +9,10 @@ use Rattle.answers.specs.declared.Answer.the-variants.{Done}
 use Rattle.answers.specs.declared.Tested.{Tested}
 use Rattle.answers.specs.declared.Tested.the-variants.{Passed, Refused}
 use Rattle.rows.specs.Tests.{sizeTest, rowsTest}
-use Rattle.rowwise.specs.WorkOut.{Worked, finished, refused, workOut}
+use Rattle.rowwise.specs.WorkOut.{Worked, finished, refused, workOut, onPassed}
 use Rattle.change.specs.Edit.{putList, editTest}
 use Rattle.path.specs.Path.{pathOf}
 use Rattle.path.specs.CardTest.{cardTest}
-
--- a test passed goes on with what is next
-unfoldable pub onPassed : Tested → Worked → Worked
-onPassed Passed next = next
-onPassed (Refused a) next = refused a
 
 -- row i of the list l is new: 4, 5, 9, then 6 and 7 along its path
 unfoldable pub reworked : List ℕ → ℕ → List ℕ → Worked

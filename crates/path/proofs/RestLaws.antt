@@ -16,7 +16,7 @@ use Rattle.rows.proofs.InRangeLaws.{passed-feeds}
 use Rattle.settle.specs.Fed.{CardBounded}
 use Rattle.rowwise.specs.Sums.{pushed}
 use Rattle.rowwise.proofs.StepLaws.{pushed-length}
-use Rattle.rowwise.specs.Working.{Working}
+use Rattle.rowwise.specs.Working.{Working, everyRow}
 use Rattle.rowwise.proofs.StartLaws.{work-start}
 use Rattle.path.specs.Path.{aboveOf, onPath}
 use Rattle.path.specs.Ready.{FoundReady, RestReady}
@@ -24,17 +24,13 @@ use Rattle.path.proofs.PathLaws.{onFrom, on-from, on-next, on-self, off
 use Rattle.path.proofs.PushLaws.{working-same, push-ready, push-next}
 use Rattle.path.proofs.CardTestLaws.{card-passed}
 
--- what every row asks is added, whether it is of use on the path or not
-abbrev every-row : ℕ → Bool
-every-row k = true
-
 -- row k is below j and off the path of row i
 abbrev pub rest : List ℕ → ℕ → ℕ → ℕ → Bool
 rest l i j k = ltb k j && not (onPath l i k)
 
 pub record Resting (l : List ℕ) (i : ℕ) (c s₀ s : List ℕ) (next j : ℕ) : Type 0 where
   pub within : j ≤ rows l
-  pub working : Working l (rest l i j) every-row c s
+  pub working : Working l (rest l i j) everyRow c s
   pub not-passed : j ≤ next
   pub left : (k : ℕ) → j ≤ k → onPath l i k ≡ onFrom l (working .feeds) next k
   pub sums-length : length s ≡ length s₀
@@ -49,7 +45,7 @@ module _ (l : List ℕ) (i : ℕ) (c s₀ : List ℕ) (a : RestReady l i c s₀)
       record {
         within = omega arith;
         working =
-            work-start l c s₀ (a .unworked) (rest l i 0) every-row (λ k. rw (le-ltb k 0 (omega arith)));
+            work-start l c s₀ (a .unworked) (rest l i 0) everyRow (λ k. rw (le-ltb k 0 (omega arith)));
         not-passed = omega arith;
         left = λ k _. on-from l feeding i k (a .is-row);
         sums-length = refl;
@@ -80,7 +76,7 @@ module _ (l : List ℕ) (i : ℕ) (c s₀ : List ℕ) (a : RestReady l i c s₀)
         (record {
           within = omega arith;
           working =
-              working-same l (rest l i j) (rest l i (j + 1)) every-row every-row c s
+              working-same l (rest l i j) (rest l i (j + 1)) everyRow everyRow c s
               (λ k _. sym (rest-next k ∙ rw (on, and-false (eqb k j), or-false (rest l i j k)))) (λ k m. m) (v .working);
           not-passed = omega (arith, above-above l (v .working .feeds) j h);
           left = λ k b. v .left k (omega arith) ∙ rw (← e, q)
@@ -101,7 +97,7 @@ module _ (l : List ℕ) (i : ℕ) (c s₀ : List ℕ) (a : RestReady l i c s₀)
           record {
             in-list = omega arith;
             in-card = omega (arith, a .unworked .card-room);
-            push = push-ready l (rest l i j) every-row c s (v .working) j h found (λ _. refl);
+            push = push-ready l (rest l i j) everyRow c s (v .working) j h found (λ _. refl);
           }
 
       pub rest-push :
@@ -111,7 +107,7 @@ module _ (l : List ℕ) (i : ℕ) (c s₀ : List ℕ) (a : RestReady l i c s₀)
           (record {
             within = omega arith;
             working =
-                push-next l (rest l i j) every-row c s (v .working) j h found
+                push-next l (rest l i j) everyRow c s (v .working) j h found
                 (rw (le-ltb j j (omega arith))) (rest l i (j + 1)) (λ k. rest-next k ∙ rw (off, and-true (eqb k j)));
             not-passed = omega (arith, v .not-passed);
             left = λ k b. v .left k (omega arith);
@@ -121,4 +117,4 @@ module _ (l : List ℕ) (i : ℕ) (c s₀ : List ℕ) (a : RestReady l i c s₀)
   -- all rows are passed
   pub rest-end : (s : List ℕ) (next j : ℕ) → Resting l i c s₀ s next j → rows l ≤ j → Working l (λ k. not (onPath l i k)) (onPath l i) c s
   rest-end s next j v h =
-      working-same l (rest l i j) (λ k. not (onPath l i k)) every-row (onPath l i) c s (λ k b. rw (lt-ltb k j (omega arith))) (λ k _. refl) (v .working)
+      working-same l (rest l i j) (λ k. not (onPath l i k)) everyRow (onPath l i) c s (λ k b. rw (lt-ltb k j (omega arith))) (λ k _. refl) (v .working)

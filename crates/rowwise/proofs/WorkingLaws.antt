@@ -28,7 +28,7 @@ use Rattle.settle.specs.Fed.{reach, excess, shortfall, earliest, asked, settled
 use Rattle.settle.specs.Settle.{shown, settled}
 use Rattle.settle.proofs.FedLaws.{settled-by}
 use Rattle.settle.proofs.OutcomeLaws.{set-bounded, margin-to}
-use Rattle.settle.proofs.PickupLaws.{current-volts}
+use Rattle.settle.proofs.PickupLaws.{current-volts, load-bounded}
 use Rattle.rowwise.specs.Ready.{HasFeeder, WorkReady}
 use Rattle.rowwise.specs.Sums.{fedAt, putFed, joined, pushed}
 use Rattle.rowwise.specs.Working.{Working, gatheredBy}
@@ -50,9 +50,6 @@ shortfall-to : (r : Row) → shortfall r ≤ reach
 shortfall-to r = counted-to (eqb (r .backed) 1) (reach - r .far * r .volts) reach (λ _. omega arith)
 
 module _ (l : List ℕ) (done matters : ℕ → Bool) (c s : List ℕ) (w : Working l done matters c s) where
-  load-to : (j : ℕ) → j < rows l → loadOf (viewOf l) j ≤ 50000000000000
-  load-to j b = let q = row-bounded l (w .in-range) j b in current-volts (q .work-to) (q .volts-to)
-
   excess-to : (j : ℕ) → j < rows l → done j ≡ true → excess (rowAt l j) (cardRowAt c j) ≤ 110000000000000
   excess-to j b g =
       let q = row-bounded l (w .in-range) j b in
@@ -66,7 +63,7 @@ module _ (l : List ℕ) (done matters : ℕ → Bool) (c s : List ℕ) (w : Work
       record {
         load-to =
             le-trans
-            (sumTo-bound _ 50000000000000 (rows l) (λ j b. counted-to (done j && fed (viewOf l) k j) (loadOf (viewOf l) j) _ (λ _. load-to j b)))
+            (sumTo-bound _ 50000000000000 (rows l) (λ j b. counted-to (done j && fed (viewOf l) k j) (loadOf (viewOf l) j) _ (λ _. load-bounded (row-bounded l (w .in-range) j b))))
             (mul-le-mul-right 50000000000000 (w .rows-to));
         excess-to =
             maxTo-bound _ 110000000000000 (rows l)

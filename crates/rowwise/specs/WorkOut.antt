@@ -4,6 +4,8 @@ use mathlib.Core.List.{List, [], _∷_}
 use Prim.Native.Nat.{ℕ, zero, suc, _+_}
 use Rattle.answers.specs.declared.Answer.{Answer}
 use Rattle.answers.specs.declared.Answer.the-variants.{Unsettled}
+use Rattle.answers.specs.declared.Tested.{Tested}
+use Rattle.answers.specs.declared.Tested.the-variants.{Passed, Refused}
 use Rattle.layout.specs.declared.CardRow.{CardRow}
 use Rattle.layout.specs.Card.{cardRowAt, putCardRow}
 use Rattle.layout.specs.View.{viewOf}
@@ -15,6 +17,11 @@ use Rattle.settle.specs.Settle.{shown, settled}
 pub data Worked : Type 0 where
   finished : List ℕ → Worked
   refused : Answer → Worked
+
+-- a test passed goes on with what is next
+unfoldable pub onPassed : Tested → Worked → Worked
+onPassed Passed next = next
+onPassed (Refused a) next = refused a
 
 -- what follows the outcome of row i
 unfoldable pub onSettled : ℕ → Settled → (CardRow → Worked) → Worked

@@ -28,6 +28,10 @@ gatheredBy done v k i =
       earliest = maxTo (v .count) (λ j. cond (done j && fed v i j) (earliest (v .row j) (k j)) 0);
     }
 
+-- every row matters
+abbrev pub everyRow : ℕ → Bool
+everyRow j = true
+
 -- a list, a card and sums in the midst of the work
 pub record Working (l : List ℕ) (done matters : ℕ → Bool) (c s : List ℕ) : Type 0 where
   pub rows-to : rows l ≤ rowsMost

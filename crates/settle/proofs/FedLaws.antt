@@ -16,7 +16,7 @@ use Rattle.rows.specs.InRange.{AllBounded}
 use Rattle.settle.specs.Conditions.{fed, eachFed, loadOf, othersLoad, returnsAfterSelfStart, clearOf, seesOwnZone, backsUp, withinDelays, gradedAbove}
 use Rattle.settle.specs.Fed.{reach, excess, shortfall, earliest, gathered, clearOfAll, backsUpAll, pickupBy, delayBy, settledBy}
 use Rattle.settle.specs.Settle.{meetsPickup, meetsDelay, outcomeOf, settled}
-use Rattle.settle.proofs.PickupLaws.{current-volts}
+use Rattle.settle.proofs.PickupLaws.{current-volts, load-bounded}
 
 -- what holds for each fed row
 module _ (v : View) (i : ℕ) (ok : ℕ → Bool) where
@@ -51,9 +51,6 @@ greatest on f n =
     (maxTo-attained (λ j. cond (on j) (f j) 0) n)
 
 module _ (v : View) (a : AllBounded v) (k : Settings) (i : ℕ) (h : i < v .count) where
-  load-to : (j : ℕ) → j < v .count → loadOf v j ≤ 50000000000000
-  load-to j b = let q = a j b in current-volts (q .work-to) (q .volts-to)
-
   -- the whole load is a fed row's own and the others'
   load-others : (j : ℕ) → j < v .count → fed v i j ≡ true → gathered v k i .load ≡ othersLoad v i j + loadOf v j
   load-others j b g =
@@ -67,7 +64,7 @@ module _ (v : View) (a : AllBounded v) (k : Settings) (i : ℕ) (h : i < v .coun
       k j .pickup * v .row j .volts + othersLoad v i j ≤ gathered v k i .excess + gathered v k i .load - reach
   clear-at-most j b g =
       let m = le-maxTo (λ j. cond (fed v i j) (excess (v .row j) (k j)) 0) (v .count) j b in
-      omega (arith, load-to j b, load-others j b g, counted-fed (excess (v .row j) (k j)) g)
+      omega (arith, load-bounded (a j b), load-others j b g, counted-fed (excess (v .row j) (k j)) g)
 
   -- where no excess counts, no row is fed
   no-excess : gathered v k i .excess ≡ 0 → gathered v k i .load ≡ 0
@@ -81,7 +78,7 @@ module _ (v : View) (a : AllBounded v) (k : Settings) (i : ℕ) (h : i < v .coun
             arith,
             le-maxTo (λ j. cond (fed v i j) (excess (v .row j) (k j)) 0) (v .count) j b,
             counted-fed (excess (v .row j) (k j)) g,
-            load-to j b,
+            load-bounded (a j b),
           )
 
   -- P2 for every fed row, and for the greatest excess
@@ -100,7 +97,7 @@ module _ (v : View) (a : AllBounded v) (k : Settings) (i : ℕ) (h : i < v .coun
       (λ m.
       let c : 11 * (k (m .at) .pickup * v .row (m .at) .volts + othersLoad v i (m .at)) ≤ 10 * I * v .row i .volts =
       leb-true _ _ (each-fed-at v i (λ j. clearOf v k i j I) t (m .at) (m .below) (m .counts)) in
-      omega (arith, load-to (m .at) (m .below), load-others (m .at) (m .below) (m .counts), m .is))
+      omega (arith, load-bounded (a (m .at) (m .below)), load-others (m .at) (m .below) (m .counts), m .is))
       (greatest (fed v i) (λ j. excess (v .row j) (k j)) (v .count))
 
   pub clear-of-all : (I : ℕ) → clearOfAll (v .row i) (gathered v k i) I ≡ eachFed v i (λ j. clearOf v k i j I)

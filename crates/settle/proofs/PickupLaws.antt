@@ -23,6 +23,10 @@ use Rattle.settle.specs.Settle.{leastPickup, leastDelay}
 pub current-volts : {a b : ℕ} → a ≤ 100000000 → b ≤ 500000 → a * b ≤ 50000000000000
 current-volts h k = mul-le-mul h k
 
+-- a row's load
+pub load-bounded : {r : Row} → Bounded r → r .work * r .volts ≤ 50000000000000
+load-bounded a = current-volts (a .work-to) (a .volts-to)
+
 -- the code's x * (10 * k) is the document's 10 × x × k
 regroup : (x k : ℕ) → x * (10 * k) ≡ 10 * x * k
 regroup x k = mul-left-comm x 10 k ∙ sym (mul-assoc 10 x k)
