@@ -1,11 +1,13 @@
 -- [01 §7] The starred cases, as one table. Definitions only.
 use mathlib.Core.Bool.{Bool, true, false}
 use mathlib.Core.List.{List, [], _∷_}
-use Prim.Native.Nat.{ℕ, zero, suc}
+use Prim.Native.Nat.{ℕ, zero, suc, _+_}
 use lib.ListN.{set}
 use Rattle.answers.specs.declared.Answer.{Answer}
 use Rattle.answers.specs.declared.Answer.the-variants.{Done, Unsettled}
 use Rattle.answers.specs.declared.Reason.the-variants.{Pickup, Delay}
+use Rattle.layout.specs.Counts.{fieldCount}
+use Rattle.layout.specs.Fields.{atFar, atNear, atCeiling}
 use Rattle.layout.specs.View.{viewOf, Settings}
 use Rattle.settle.specs.Conditions.{eachFed, clearOf}
 use Rattle.calculate.specs.Whole.{whole}
@@ -25,13 +27,13 @@ firstRow work far = 1 ∷ 2 ∷ 1 ∷ 35000 ∷ work ∷ 1500 ∷ 935 ∷ far �
 
 -- fields of row 2 in that list, by their place in it: far, near and ceiling
 abbrev pub far2 : ℕ
-far2 = 25
+far2 = fieldCount + atFar
 
 abbrev pub near2 : ℕ
-near2 = 27
+near2 = fieldCount + atNear
 
 abbrev pub ceiling2 : ℕ
-ceiling2 = 34
+ceiling2 = fieldCount + atCeiling
 
 -- two rows of equal volts, work 10,000 and 90,000, fed by a third
 unfoldable pub underOne : List ℕ

@@ -4,7 +4,8 @@ use mathlib.Core.List.{List}
 use Prim.Native.Nat.{ℕ, _<_}
 use native.Mathlib.Omega.{arith}
 use Rattle.layout.specs.Counts.{fieldCount}
-use Rattle.layout.specs.Fields.{atFeeder, atKind, atLow, atHigh}
+use Rattle.layout.specs.Fields.{atFeeder, atKind, atVolts, atWork, atSelfstart, atReturn, atFar, atClear, atNear, atFactor, atLow, atHigh, atStep}
+use Rattle.layout.specs.Fields.{atDevice, atFloor, atCeiling, atBacked}
 use Rattle.layout.specs.List.{field, rowAt}
 
 pub same-row : (l l′ : List ℕ) (j : ℕ) → ((k : ℕ) → k < fieldCount → field l j k ≡ field l′ j k) → rowAt l j ≡ rowAt l′ j
@@ -13,19 +14,19 @@ same-row l l′ j e =
     record {
       feeder = e atFeeder (omega arith) t;
       kind = e atKind (omega arith) t;
-      volts = e 3 (omega arith) t;
-      work = e 4 (omega arith) t;
-      selfstart = e 5 (omega arith) t;
-      returnfactor = e 6 (omega arith) t;
-      far = e 7 (omega arith) t;
-      clear = e 8 (omega arith) t;
-      near = e 9 (omega arith) t;
-      factor = e 10 (omega arith) t;
+      volts = e atVolts (omega arith) t;
+      work = e atWork (omega arith) t;
+      selfstart = e atSelfstart (omega arith) t;
+      returnfactor = e atReturn (omega arith) t;
+      far = e atFar (omega arith) t;
+      clear = e atClear (omega arith) t;
+      near = e atNear (omega arith) t;
+      factor = e atFactor (omega arith) t;
       low = e atLow (omega arith) t;
       high = e atHigh (omega arith) t;
-      step = e 13 (omega arith) t;
-      device = e 14 (omega arith) t;
-      floor = e 15 (omega arith) t;
-      ceiling = e 16 (omega arith) t;
-      backed = e 17 (omega arith) t;
+      step = e atStep (omega arith) t;
+      device = e atDevice (omega arith) t;
+      floor = e atFloor (omega arith) t;
+      ceiling = e atCeiling (omega arith) t;
+      backed = e atBacked (omega arith) t;
     }

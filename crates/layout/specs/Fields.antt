@@ -5,18 +5,57 @@ use Prim.Native.Nat.{ℕ, _+_, _*_}
 use lib.Dec.{leb}
 use lib.ListN.{getD}
 
--- the fields that other definitions name
+-- the fields by their index; index 0 is the row's own number
 abbrev pub atFeeder : ℕ
 atFeeder = 1
 
 abbrev pub atKind : ℕ
 atKind = 2
 
+abbrev pub atVolts : ℕ
+atVolts = 3
+
+abbrev pub atWork : ℕ
+atWork = 4
+
+abbrev pub atSelfstart : ℕ
+atSelfstart = 5
+
+abbrev pub atReturn : ℕ
+atReturn = 6
+
+abbrev pub atFar : ℕ
+atFar = 7
+
+abbrev pub atClear : ℕ
+atClear = 8
+
+abbrev pub atNear : ℕ
+atNear = 9
+
+abbrev pub atFactor : ℕ
+atFactor = 10
+
 abbrev pub atLow : ℕ
 atLow = 11
 
 abbrev pub atHigh : ℕ
 atHigh = 12
+
+abbrev pub atStep : ℕ
+atStep = 13
+
+abbrev pub atDevice : ℕ
+atDevice = 14
+
+abbrev pub atFloor : ℕ
+atFloor = 15
+
+abbrev pub atCeiling : ℕ
+atCeiling = 16
+
+abbrev pub atBacked : ℕ
+atBacked = 17
 
 -- the least and the greatest number allowed in each field, in the order of section 2's table
 abbrev pub bounds : List ℕ

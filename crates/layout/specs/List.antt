@@ -5,7 +5,8 @@ use Prim.Native.Nat.{ℕ, _+_, _*_, _/_}
 use lib.ListN.{length, getD}
 use Rattle.layout.specs.declared.Row.{Row}
 use Rattle.layout.specs.Counts.{fieldCount}
-use Rattle.layout.specs.Fields.{atFeeder, atKind, atLow, atHigh}
+use Rattle.layout.specs.Fields.{atFeeder, atKind, atVolts, atWork, atSelfstart, atReturn, atFar, atClear, atNear, atFactor, atLow, atHigh, atStep}
+use Rattle.layout.specs.Fields.{atDevice, atFloor, atCeiling, atBacked}
 
 -- how many whole rows a list has
 abbrev pub rows : List ℕ → ℕ
@@ -21,19 +22,19 @@ rowAt l i =
     record {
       feeder = field l i atFeeder;
       kind = field l i atKind;
-      volts = field l i 3;
-      work = field l i 4;
-      selfstart = field l i 5;
-      returnfactor = field l i 6;
-      far = field l i 7;
-      clear = field l i 8;
-      near = field l i 9;
-      factor = field l i 10;
+      volts = field l i atVolts;
+      work = field l i atWork;
+      selfstart = field l i atSelfstart;
+      returnfactor = field l i atReturn;
+      far = field l i atFar;
+      clear = field l i atClear;
+      near = field l i atNear;
+      factor = field l i atFactor;
       low = field l i atLow;
       high = field l i atHigh;
-      step = field l i 13;
-      device = field l i 14;
-      floor = field l i 15;
-      ceiling = field l i 16;
-      backed = field l i 17;
+      step = field l i atStep;
+      device = field l i atDevice;
+      floor = field l i atFloor;
+      ceiling = field l i atCeiling;
+      backed = field l i atBacked;
     }

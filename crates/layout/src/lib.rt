@@ -21,14 +21,40 @@ pub const LIST: usize = ROWS * FIELDS;
 
 pub const CARD: usize = ROWS * COLUMNS;
 
-// The fields that other functions name.
+// The fields by their index; index 0 is the row's own number.
 pub const AT_FEEDER: usize = 1;
 
 pub const AT_KIND: usize = 2;
 
+pub const AT_VOLTS: usize = 3;
+
+pub const AT_WORK: usize = 4;
+
+pub const AT_SELFSTART: usize = 5;
+
+pub const AT_RETURN: usize = 6;
+
+pub const AT_FAR: usize = 7;
+
+pub const AT_CLEAR: usize = 8;
+
+pub const AT_NEAR: usize = 9;
+
+pub const AT_FACTOR: usize = 10;
+
 pub const AT_LOW: usize = 11;
 
 pub const AT_HIGH: usize = 12;
+
+pub const AT_STEP: usize = 13;
+
+pub const AT_DEVICE: usize = 14;
+
+pub const AT_FLOOR: usize = 15;
+
+pub const AT_CEILING: usize = 16;
+
+pub const AT_BACKED: usize = 17;
 
 // The least and the greatest number allowed, field by field [01 §2].
 const BOUNDS: [u64; 2 * FIELDS] = [
@@ -132,21 +158,21 @@ pub fn row_at(list: &[u64], i: usize) -> Row
     Row {
         feeder: list[at + AT_FEEDER],
         kind: list[at + AT_KIND],
-        volts: list[at + 3],
-        work: list[at + 4],
-        selfstart: list[at + 5],
-        returnfactor: list[at + 6],
-        far: list[at + 7],
-        clear: list[at + 8],
-        near: list[at + 9],
-        factor: list[at + 10],
+        volts: list[at + AT_VOLTS],
+        work: list[at + AT_WORK],
+        selfstart: list[at + AT_SELFSTART],
+        returnfactor: list[at + AT_RETURN],
+        far: list[at + AT_FAR],
+        clear: list[at + AT_CLEAR],
+        near: list[at + AT_NEAR],
+        factor: list[at + AT_FACTOR],
         low: list[at + AT_LOW],
         high: list[at + AT_HIGH],
-        step: list[at + 13],
-        device: list[at + 14],
-        floor: list[at + 15],
-        ceiling: list[at + 16],
-        backed: list[at + 17],
+        step: list[at + AT_STEP],
+        device: list[at + AT_DEVICE],
+        floor: list[at + AT_FLOOR],
+        ceiling: list[at + AT_CEILING],
+        backed: list[at + AT_BACKED],
     }
 }
 

@@ -59,10 +59,6 @@ name-part s places i =
 pub part-short : (s : List ℕ) (a n : ℕ) → length (take (a + n - a) (drop a s)) ≤ n
 part-short s a n = omega (arith, length-take (a + n - a) (drop a s))
 
--- a test that fails below n
-pub every-fails : (ok : ℕ → Bool) (n i : ℕ) → i < n → ok i ≡ false → every n ok ≡ false
-every-fails ok n i h e = fails (every n ok) (λ t. not-both (every-at ok n i t h) e)
-
 -- what a card that can be printed says
 pub record Room (size : ℕ) (places : List ℕ) (card n room : ℕ) : Type 0 where
   pub header : headerSize ≤ room

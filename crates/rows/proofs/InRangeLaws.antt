@@ -13,7 +13,8 @@ use Rattle.fold.proofs.BoolLaws.{and-left, and-right, zero-not-one}
 use Rattle.fold.proofs.FirstLaws.{first-none, first-nothing}
 use Rattle.answers.specs.declared.Tested.{Tested}
 use Rattle.answers.specs.declared.Tested.the-variants.{Passed}
-use Rattle.layout.specs.Fields.{atFeeder, atKind, atLow, atHigh, bounds, leastIn, greatestIn}
+use Rattle.layout.specs.Fields.{atFeeder, atKind, atLow, atHigh, bounds, leastIn, greatestIn, atVolts, atWork, atSelfstart, atReturn, atFar, atClear}
+use Rattle.layout.specs.Fields.{atNear, atFactor, atStep, atCeiling}
 use Rattle.layout.specs.List.{rows, field, rowAt}
 use Rattle.rows.specs.Tests.{fieldRight, rowFault, faultAfter, rowAtFault, feedsRight, fedWrongly, fieldAnswer, treeAnswer, treeTest, rowsTest}
 use Rattle.rows.specs.InRange.{InRange, Feeds, Bounded}
@@ -101,19 +102,19 @@ module _ (l : List ℕ) (a : InRange l) (i : ℕ) (h : i < rows l) where
   pub row-bounded : Bounded (rowAt l i)
   row-bounded =
       record {
-        volts-from = field-from 3 (omega arith);
-        volts-to = field-to 3 (omega arith);
-        work-to = field-to 4 (omega arith);
-        selfstart-to = field-to 5 (omega arith);
-        return-from = field-from 6 (omega arith);
-        return-to = field-to 6 (omega arith);
-        far-to = field-to 7 (omega arith);
-        clear-to = field-to 8 (omega arith);
-        near-to = field-to 9 (omega arith);
-        factor-to = field-to 10 (omega arith);
-        high-to = field-to 12 (omega arith);
-        step-from = field-from 13 (omega arith);
-        ceiling-to = field-to 16 (omega arith);
+        volts-from = field-from atVolts (omega arith);
+        volts-to = field-to atVolts (omega arith);
+        work-to = field-to atWork (omega arith);
+        selfstart-to = field-to atSelfstart (omega arith);
+        return-from = field-from atReturn (omega arith);
+        return-to = field-to atReturn (omega arith);
+        far-to = field-to atFar (omega arith);
+        clear-to = field-to atClear (omega arith);
+        near-to = field-to atNear (omega arith);
+        factor-to = field-to atFactor (omega arith);
+        high-to = field-to atHigh (omega arith);
+        step-from = field-from atStep (omega arith);
+        ceiling-to = field-to atCeiling (omega arith);
       }
 
 -- the feeding row of a row: above it, and a row of the list; of the last row none

@@ -11,7 +11,7 @@ use borrow.Author.Needs.{needs}
 use Rattle.fold.specs.Fold.{every}
 use Rattle.fold.proofs.BoolLaws.{and-both}
 use Rattle.print.specs.Card.{placeRight}
-use Rattle.print.proofs.PlaceLaws.{every-fails}
+use Rattle.fold.proofs.FoldLaws.{every-fails}
 use Rattle.print.proofs.places_right.Statement.{statement}
 use Rattle.print.proofs.places_right.Tie as tie
 
