@@ -8,7 +8,7 @@ use native.Mathlib.Omega.{arith}
 use lib.ListN.{length, getD, take, drop, List·getD-append}
 use lib.Seq.{paste, take-all, take-at, drop-append-le, length-take-le}
 use borrow.Author.Tests.{le-leb, lt-leb, eq-eqb, ne-eqb}
-use Rattle.layout.specs.Counts.{fieldCount, cardMost, rowsMost}
+use Rattle.layout.specs.Counts.{fieldCount, columnCount, cardMost, rowsMost}
 use Rattle.fold.proofs.BoolLaws.{and-both}
 use Rattle.fold.proofs.FoldLaws.{every-of}
 use Rattle.answers.specs.declared.Answer.the-variants as answer
@@ -92,7 +92,7 @@ module _ (s list names : List ℕ) (n room : ℕ) (r : RowsReady s list names n 
         (and-both
         (and-both (le-leb headerSize room (omega arith)) (le-leb n ((room - headerSize) / lineMost) (omega arith)))
         (le-leb n (length names / 2) (omega (arith, r .names-room))))
-        (le-leb n (length card / 3) (omega arith)))
+        (le-leb n (length card / columnCount) (omega arith)))
         (every-of (placeRight (length s) names) n
         (λ k h. rw names-is (right-front (length s) (rowPlaces s) _ k (omega (arith, stand .places-long)) (stand .inside k h))))
 
