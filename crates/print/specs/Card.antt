@@ -14,7 +14,8 @@ use Rattle.print.specs.Write.{digitsMost, numberText, written}
 
 -- name,pickup,delay,cutoff
 abbrev pub cardHeader : List ℕ
-cardHeader = 110 ∷ 97 ∷ 109 ∷ 101 ∷ 44 ∷ 112 ∷ 105 ∷ 99 ∷ 107 ∷ 117 ∷ 112 ∷ 44 ∷ 100 ∷ 101 ∷ 108 ∷ 97 ∷ 121 ∷ 44 ∷ 99 ∷ 117 ∷ 116 ∷ 111 ∷ 102 ∷ 102 ∷ 13 ∷ 10 ∷ []
+cardHeader =
+    110 ∷ 97 ∷ 109 ∷ 101 ∷ 44 ∷ 112 ∷ 105 ∷ 99 ∷ 107 ∷ 117 ∷ 112 ∷ 44 ∷ 100 ∷ 101 ∷ 108 ∷ 97 ∷ 121 ∷ 44 ∷ 99 ∷ 117 ∷ 116 ∷ 111 ∷ 102 ∷ 102 ∷ 13 ∷ 10 ∷ []
 
 -- refused,place,field
 abbrev pub refusalHeader : List ℕ

@@ -63,7 +63,8 @@ module _ (l : List ℕ) (done matters : ℕ → Bool) (c s : List ℕ) (w : Work
       record {
         load-to =
             le-trans
-            (sumTo-bound _ 50000000000000 (rows l) (λ j b. counted-to (done j && fed (viewOf l) k j) (loadOf (viewOf l) j) _ (λ _. load-bounded (row-bounded l (w .in-range) j b))))
+            (sumTo-bound _ 50000000000000 (rows l)
+            (λ j b. counted-to (done j && fed (viewOf l) k j) (loadOf (viewOf l) j) _ (λ _. load-bounded (row-bounded l (w .in-range) j b))))
             (mul-le-mul-right 50000000000000 (w .rows-to));
         excess-to =
             maxTo-bound _ 110000000000000 (rows l)

@@ -42,7 +42,9 @@ greatest-fits : (c : tie.Else1) → ratedFits (c .before .before .before .before
 greatest-fits c = sym (c .before .rated-fits .ensures) ∙ not-false _ (c .if1 .left)
 
 abbrev start : tie.Else2 → tie.Start
-start c = c .before .before .before .before .before .before
+start c =
+    let first-passed = c .before .before in
+    first-passed .before .before .before .before
 
 least-fits : (c : tie.Else2) → ratedFits (start c .args .s .least) ≡ true
 least-fits c = sym (c .before .rated-fits2 .ensures) ∙ not-false _ (c .if2 .left)

@@ -15,7 +15,9 @@ use Rattle.text.proofs.read_text.Tie as tie
 
 -- from the end of the first line back to the start
 abbrev start-of : tie.After-skip → tie.Start
-start-of c = c .before .before .before .before .before .before
+start-of c =
+    let sized = c .before .before .before in
+    sized .before .before .before
 
 ends-inside : (c : tie.After-skip) → c .skip .result .at ≤ length (now (start-of c .args .text))
 unfolding lineLength

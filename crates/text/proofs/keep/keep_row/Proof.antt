@@ -38,11 +38,17 @@ slice-aggregate-keep c =
 keep-requires : tie.Need-keep-requires
 keep-requires c κs = search needs
 
+-- from the count of places back to the start
+abbrev start-of : tie.After-places → tie.Start
+start-of c =
+    let counted = c .before in
+    counted .before .before .before .before .before
+
 array-share-prefix-place : tie.Need-array-share-prefix-place
 array-share-prefix-place c =
     let kept = c .before .before .before in
     let placed = kept .before .before .before in
-    let start = placed .before .before .before .before .before .before in
+    let start = start-of placed in
     let row = start .good .1 .1 .1 .1 in
     let e : length (start .args .row .place) ≡ 2 = search needs in
     omega (arith, placed .places .ensures, two-or-none (start .args .columns .named))
@@ -51,7 +57,7 @@ slice-aggregate-keep-2 : tie.Need-slice-aggregate-keep-2
 slice-aggregate-keep-2 c =
     let kept = c .before .before .before .before in
     let placed = kept .before .before .before in
-    let start = placed .before .before .before .before .before .before in
+    let start = start-of placed in
     let row = start .good .1 .1 .1 .1 in
     let e : length (start .args .row .place) ≡ 2 = search needs in
     sym (length-take-le _ _ (omega (arith, placed .places .ensures, two-or-none (start .args .columns .named))))
