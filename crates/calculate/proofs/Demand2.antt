@@ -30,10 +30,11 @@ use Rattle.layout.specs.Card.{cardRowAt}
 use Rattle.layout.specs.Counts.{columnCount}
 use Rattle.layout.specs.List.{rows, rowAt}
 use Rattle.layout.specs.View.{View, viewOf, Settings}
-use Rattle.rows.specs.InRange.{InRange, Feeds, AllBounded}
+use Rattle.layout.specs.Range.{AllBounded}
+use Rattle.rows.specs.InRange.{RightSize, HasRoom, InRange, Feeds, SizeGets}
 use Rattle.rows.specs.Tests.{sizeTest, rowsTest}
-use Rattle.rows.proofs.InRangeLaws.{in-range-passes, row-bounded}
-use Rattle.rows.proofs.TestLaws.{size-passed}
+use Rattle.rows.proofs.InRangeLaws.{in-range-passes}
+use Rattle.rows.proofs.ExactLaws.{get-size, size-rows}
 use Rattle.settle.specs.declared.Cutoff.the-variants.{Fitted, NotFitted}
 use Rattle.settle.specs.Conditions.{staysClear, seesNear}
 use Rattle.settle.specs.Settle.{leastPickup, fitting, cutoffOf, printed, shown, settled}
@@ -59,7 +60,7 @@ pickup-not-delay e = zero-not-one cc
 fitted-not : {C : ℕ} → Fitted C ≡ NotFitted → ⊥
 fitted-not e = zero-not-one cc
 
-module _ (l c : List ℕ) (size : sizeTest (length l) (length c) ≡ Passed) (a : InRange l) (b : Feeds l) where
+module _ (l c : List ℕ) (size : RightSize l) (room : HasRoom l (length c)) (a : InRange l) (b : Feeds l) where
   v : View
   v = viewOf l
 
@@ -67,16 +68,13 @@ module _ (l c : List ℕ) (size : sizeTest (length l) (length c) ≡ Passed) (a 
   card : Settings
   card = cardRowAt (whole l c .card)
 
-  room : rows l * columnCount ≤ length c
-  room = omega (arith, size-passed (length l) (length c) size .card-room)
-
   bounded : AllBounded v
   unfolding v
-  bounded j h = row-bounded l a j h
+  bounded j h = a j h .bounded
 
   calculates : whole l c ≡ ending c (calculation l c)
   unfolding whole ending onPassed
-  calculates = rw (size, in-range-passes l a b)
+  calculates = rw (get-size l (length c) (SizeGets.passed size room), in-range-passes l (size-rows l size) a b)
 
   -- a card is given exactly where the calculation finishes, and it is that card; any other list is refused by row
   data Ended : Type 0 where

@@ -8,7 +8,7 @@ use native.Mathlib.Omega.{arith}
 use Rattle.fold.proofs.BoolLaws.{not-both}
 use Rattle.fold.proofs.FoldLaws.{below-cases}
 use Rattle.layout.specs.View.{View, Settings}
-use Rattle.rows.specs.InRange.{AllBounded}
+use Rattle.layout.specs.Range.{AllBounded}
 use Rattle.settle.specs.Conditions.{fed}
 use Rattle.settle.specs.Settle.{meetsPickup, meetsDelay}
 use Rattle.calculate.specs.Meets.{PickupsMeet, DelaysMeet}

@@ -12,7 +12,7 @@ use Rattle.grid.proofs.GridLaws.{Least, leastOn-least}
 use Rattle.layout.specs.declared.CardRow.{CardRow}
 use Rattle.layout.specs.declared.Row.{Row}
 use Rattle.layout.specs.View.{View, Settings}
-use Rattle.rows.specs.InRange.{AllBounded}
+use Rattle.layout.specs.Range.{AllBounded}
 use Rattle.settle.specs.Conditions.{fed, eachFed, othersLoad, returnsAfterSelfStart, clearOf, seesOwnZone, backsUp, withinDelays, gradedAbove, margin}
 use Rattle.settle.specs.Settle.{meetsPickup, meetsDelay, leastPickup, leastDelay, shown, settled}
 use Rattle.settle.proofs.FedLaws.{each-fed-at, each-fed-of}

@@ -20,7 +20,8 @@ use Rattle.layout.specs.Counts.{columnCount}
 use Rattle.layout.specs.List.{rows}
 use Rattle.layout.specs.View.{View, viewOf, Settings}
 use Rattle.layout.proofs.CardLaws.{putCardRow-length}
-use Rattle.rows.specs.InRange.{AllBounded, Feeds}
+use Rattle.layout.specs.Range.{AllBounded}
+use Rattle.rows.specs.InRange.{Feeds}
 use Rattle.settle.specs.declared.Outcome.{Outcome}
 use Rattle.settle.specs.declared.Settled.{Settled}
 use Rattle.settle.specs.declared.Settled.the-variants.{Set, Unset}

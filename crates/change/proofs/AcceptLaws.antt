@@ -18,12 +18,12 @@ use Rattle.layout.specs.declared.CardRow.{CardRow}
 use Rattle.layout.specs.declared.Row.{Row}
 use Rattle.layout.specs.Card.{cardRowAt}
 use Rattle.layout.specs.Counts.{columnCount}
-use Rattle.layout.specs.Fields.{atLow}
 use Rattle.layout.specs.List.{rows, rowAt}
 use Rattle.layout.specs.View.{viewOf}
-use Rattle.rows.specs.InRange.{InRange, Bounded, AllBounded}
+use Rattle.layout.specs.Range.{Bounded, AllBounded}
+use Rattle.rows.specs.InRange.{InRange}
 use Rattle.rows.specs.Tests.{sizeTest, rowsTest}
-use Rattle.rows.proofs.InRangeLaws.{passed-feeds, row-bounded, field-from}
+use Rattle.rows.proofs.InRangeLaws.{passed-feeds}
 use Rattle.rows.proofs.TestLaws.{size-passed}
 use Rattle.settle.specs.declared.Cutoff.the-variants.{Fitted, NotFitted}
 use Rattle.settle.specs.Conditions.{seesNear, staysClear}
@@ -86,11 +86,11 @@ module _ (l : List ℕ) (a : InRange l) (c : List ℕ) (j : ℕ) (h : j < rows l
   pub settled-fits : CardFits c j
   unfolding settled shown
   settled-fits =
-      let all : AllBounded (viewOf l) = λ j h. row-bounded l a j h in
-      let b = row-bounded l a j h in
+      let all : AllBounded (viewOf l) = λ j h. a j h .bounded in
+      let b = a j h .bounded in
       let p = pickup-least (viewOf l) all (cardRowAt c) j h s .available in
       let d = delay-least (viewOf l) all (cardRowAt c) j h s .available in
-      let low : 1 ≤ rowAt l j .low = field-from l a j h atLow (omega arith) in
+      let low : 1 ≤ rowAt l j .low = b .low-from in
       let shows = ap (λ (k : CardRow). k .cutoff) (s .shows) in
       record {
         pickup-from = omega (arith, p .on-grid);

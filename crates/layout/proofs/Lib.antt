@@ -1,2 +1,3 @@
 pub mod CardLaws
+pub mod RangeLaws
 pub mod RowLaws

@@ -8,7 +8,6 @@ use Rattle.fold.proofs.FoldLaws.{sumTo-same, maxTo-same}
 use Rattle.layout.specs.Card.{cardRowAt}
 use Rattle.layout.specs.List.{rows, rowAt}
 use Rattle.layout.proofs.CardLaws.{putCardRow-stands}
-use Rattle.rows.proofs.InRangeLaws.{row-bounded}
 use Rattle.settle.specs.Fed.{CardBounded}
 use Rattle.rowwise.specs.Ready.{PushReady}
 use Rattle.rowwise.specs.Sums.{pushed}
@@ -42,7 +41,7 @@ module _ (l : List ℕ) (done matters : ℕ → Bool) (c s : List ℕ) (w : Work
     (to : CardBounded (cardRowAt c i)) where
   pub push-ready : (1 ≤ rowAt l i .feeder → matters (rowAt l i .feeder - 1) ≡ true) → PushReady (rowAt l i) (cardRowAt c i) s
   push-ready f =
-      record { bounded = row-bounded l (w .in-range) i h; settings = to; feeder = has-feeder l done matters c s w i h f }
+      record { bounded = w .in-range i h .bounded; settings = to; feeder = has-feeder l done matters c s w i h f }
 
   -- the settings found are those that stand there
   pub push-next :

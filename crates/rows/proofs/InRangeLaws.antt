@@ -1,26 +1,39 @@
--- The tests 4 and 5 pass exactly the lists in range whose rows feed as section 2 says; what such a list's rows are.
-use mathlib.Core.Path.{_≡_, refl}
-use mathlib.Core.Bool.{Bool, true, false, not, _&&_}
+-- The tests of a field, a row and its feeding pass exactly what is in range and feeds as section 2 says; what the rows of such a list are.
+use mathlib.Core.Path.{_≡_, refl, sym, _∙_}
+use mathlib.Core.Bool.{Bool, true, false, not, _&&_, _||_}
+use mathlib.Core.Logic.{_↔_, ⊎-elim}
 use mathlib.Core.List.{List}
 use Prim.Native.Nat.{ℕ, _+_, _-_, _*_, _≤_, _<_}
 use native.Mathlib.Omega.{arith}
 use lib.Dec.{leb, ltb, eqb}
-use borrow.Author.Tests.{eqb-true, ltb-true, leb-true, not-false, ne-eqb, eq-eqb, le-leb}
-use Rattle.layout.specs.Counts.{fieldCount}
+use borrow.Author.Tests.{eqb-true, eqb-false, ltb-true, leb-true, not-false, not-true, ne-eqb, eq-eqb, le-leb, lt-ltb}
+use Rattle.layout.specs.Counts.{fieldCount, rowsMost}
 use Rattle.fold.specs.declared.Found.{Found}
 use Rattle.fold.specs.declared.Found.the-variants.{At, Nothing}
-use Rattle.fold.proofs.BoolLaws.{and-left, and-right, zero-not-one}
+use Rattle.fold.specs.First.{first}
+use Rattle.fold.proofs.BoolLaws.{and-left, and-right, and-both, implies, implied, passes-or-fails, zero-not-one}
 use Rattle.fold.proofs.FirstLaws.{first-none, first-nothing}
 use Rattle.answers.specs.declared.Tested.{Tested}
 use Rattle.answers.specs.declared.Tested.the-variants.{Passed}
-use Rattle.layout.specs.Fields.{atFeeder, atKind, atLow, atHigh, bounds, leastIn, greatestIn, atVolts, atWork, atSelfstart, atReturn, atFar, atClear}
-use Rattle.layout.specs.Fields.{atNear, atFactor, atStep, atCeiling}
+use Rattle.layout.specs.Fields.{atFeeder, atKind, atLow, atHigh, bounds, inBounds}
 use Rattle.layout.specs.List.{rows, field, rowAt}
+use Rattle.layout.specs.Range.{Bounded}
+use Rattle.layout.proofs.RangeLaws.{in-bounds-exactly, within-bounded, bounded-within}
 use Rattle.rows.specs.Tests.{fieldRight, rowFault, faultAfter, rowAtFault, feedsRight, fedWrongly, fieldAnswer, treeAnswer, treeTest, rowsTest}
-use Rattle.rows.specs.InRange.{InRange, Feeds, Bounded}
-use Rattle.rows.proofs.FieldLaws.{right-from, right-to}
+use Rattle.rows.specs.InRange.{RowInRange, InRange, FieldInRange, FedRightly, Feeds}
+
+-- ---- fields and rows
 
 module _ (l : List ℕ) (i : ℕ) where
+  pub field-in-range : (k : ℕ) → fieldRight l i k ≡ true → FieldInRange l i k
+  unfolding fieldRight
+  field-in-range k e =
+      record {
+        own-number =
+            λ z. eqb-true _ _ (implies (eqb k 0) _ (and-right (inBounds bounds k (field l i k)) _ e) (eq-eqb k 0 z));
+        within = λ _. in-bounds-exactly bounds k (field l i k) .0 (and-left (inBounds bounds k (field l i k)) _ e);
+      }
+
   -- a row without fault has its fields right, and low at most high
   no-fault-none : (f : Found) (o : Bool) → faultAfter o f ≡ 0 → f ≡ Nothing
   unfolding faultAfter
@@ -33,19 +46,80 @@ module _ (l : List ℕ) (i : ℕ) where
   no-fault-ordered Nothing true e = refl
   no-fault-ordered Nothing false e = absurd (omega arith)
 
-  pub no-fault-fields : rowFault l i ≡ 0 → (k : ℕ) → k < fieldCount → fieldRight l i k ≡ true
+  no-fault-fields : rowFault l i ≡ 0 → (k : ℕ) → k < fieldCount → fieldRight l i k ≡ true
   unfolding rowFault
   no-fault-fields e k h =
       not-false _ (first-nothing (λ k. not (fieldRight l i k)) fieldCount 0 (no-fault-none _ _ e) k (omega arith) (omega arith))
 
-  pub no-fault-order : rowFault l i ≡ 0 → field l i atLow ≤ field l i atHigh
-  unfolding rowFault
-  no-fault-order e = leb-true _ _ (no-fault-ordered _ _ e)
+  -- fields in range and low at most high are a row in range
+  pub fields-row : ((k : ℕ) → k < fieldCount → FieldInRange l i k) → field l i atLow ≤ field l i atHigh → RowInRange l i
+  fields-row r o =
+      record {
+        own-number = r 0 (omega arith) .own-number refl;
+        bounded = within-bounded l i (λ k a b. r k b .within a);
+        low-at-most-high = o;
+      }
 
-  pub fault-free : ((k : ℕ) → k < fieldCount → fieldRight l i k ≡ true) → field l i atLow ≤ field l i atHigh → rowFault l i ≡ 0
-  unfolding rowFault faultAfter
-  fault-free h o =
-      rw (first-none (λ k. not (fieldRight l i k)) fieldCount 0 (λ k a b. rw (h k (omega arith))), le-leb _ _ o)
+  pub row-fields : RowInRange l i → (k : ℕ) → k < fieldCount → FieldInRange l i k
+  row-fields r k h =
+      record { own-number = λ z. rw z (r .own-number); within = λ a. bounded-within l i (r .bounded) k a h }
+
+  pub no-fault-row : rowFault l i ≡ 0 → RowInRange l i
+  unfolding rowFault
+  no-fault-row e = fields-row (λ k h. field-in-range k (no-fault-fields e k h)) (leb-true _ _ (no-fault-ordered _ _ e))
+
+  -- the table lets a first field up to 256 pass, which is what a list of the right size has
+  module _ (few : i < rowsMost) where
+    pub in-range-field : (k : ℕ) → FieldInRange l i k → fieldRight l i k ≡ true
+    unfolding fieldRight
+    in-range-field k r =
+        and-both (in-bounds-exactly bounds k (field l i k) .1 (⊎-elim
+        (λ (z : eqb k 0 ≡ true).
+        let own = r .own-number (eqb-true k 0 z) in
+        rw (eqb-true k 0 z) (let own0 : field l i 0 ≡ i + 1 = rw (eqb-true k 0 z) at own in (omega arith, omega arith)))
+        (λ (n : eqb k 0 ≡ false). r .within (let m = eqb-false k 0 n in omega arith))
+        (passes-or-fails (eqb k 0))))
+        (implied (eqb k 0) _ (λ z. eq-eqb _ _ (r .own-number (eqb-true k 0 z))))
+
+    pub row-no-fault : RowInRange l i → rowFault l i ≡ 0
+    unfolding rowFault faultAfter
+    row-no-fault r =
+        rw (
+          first-none (λ k. not (fieldRight l i k)) fieldCount 0 (λ k a b. rw (in-range-field k (row-fields r k (omega arith)))),
+          le-leb _ _ (r .low-at-most-high),
+        )
+
+-- ---- feeding
+
+module _ (l : List ℕ) (i : ℕ) (h : i < rows l) where
+  pub right-feeds : feedsRight l i ≡ true → FedRightly l i
+  unfolding feedsRight
+  right-feeds e =
+      record {
+        last-has-0 = λ z. eqb-true _ _ (rw (eq-eqb (i + 1) (rows l) z) at e);
+        by-a-greater = λ n. ltb-true _ _ (and-left _ _ (other n));
+        by-a-row = λ n. leb-true _ _ (and-left (leb (rowAt l i .feeder) (rows l)) _ (and-right (ltb (i + 1) (rowAt l i .feeder)) _ (other n)));
+        by-no-motor =
+            λ n m.
+            eqb-false _ _ (not-true _ (and-right (leb (rowAt l i .feeder) (rows l)) _ (and-right (ltb (i + 1) (rowAt l i .feeder)) _ (other n)))) m;
+      }
+    where
+      other :
+          i + 1 < rows l →
+          (ltb (i + 1) (rowAt l i .feeder) && (leb (rowAt l i .feeder) (rows l) && not (eqb (rowAt l (rowAt l i .feeder - 1) .kind) 3))) ≡ true
+      other n = rw (ne-eqb (i + 1) (rows l) (λ z. omega arith)) at e
+
+  pub feeds-right : FedRightly l i → feedsRight l i ≡ true
+  unfolding feedsRight
+  feeds-right f =
+      ⊎-elim
+      (λ (z : eqb (i + 1) (rows l) ≡ true). rw (z, eq-eqb _ _ (f .last-has-0 (eqb-true (i + 1) (rows l) z))))
+      (λ (z : eqb (i + 1) (rows l) ≡ false).
+      let n : i + 1 < rows l = let m = eqb-false (i + 1) (rows l) z in omega arith in
+      rw (z, lt-ltb _ _ (f .by-a-greater n), le-leb _ _ (f .by-a-row n), ne-eqb _ _ (f .by-no-motor n)))
+      (passes-or-fails (eqb (i + 1) (rows l)))
+
+-- ---- the two tests over all rows
 
 module _ (l : List ℕ) where
   tree-passed : (f : Found) → treeAnswer f ≡ Passed → f ≡ Nothing
@@ -65,68 +139,35 @@ module _ (l : List ℕ) where
 
   pub passed-in-range : rowsTest l ≡ Passed → InRange l
   unfolding rowsTest
-  passed-in-range e =
-      record {
-        fields-right = λ i k h b. no-fault-fields l i (none i h) k b;
-        low-at-most-high = λ i h. no-fault-order l i (none i h);
-      }
-    where
-      none : (i : ℕ) → i < rows l → rowFault l i ≡ 0
-      none i h = eqb-true _ _ (not-false _ (first-nothing (rowAtFault l) (rows l) 0 (fields-passed _ _ e) i (omega arith) (omega arith)))
+  passed-in-range e i h =
+      no-fault-row l i
+      (eqb-true _ _ (not-false _ (first-nothing (rowAtFault l) (rows l) 0 (fields-passed _ _ e) i (omega arith) (omega arith))))
 
   pub passed-feeds : rowsTest l ≡ Passed → Feeds l
   unfolding rowsTest treeTest
-  passed-feeds e =
-      record {
-        feeds-right =
-            λ i h. not-false _ (first-nothing (fedWrongly l) (rows l) 0 (tree-passed _ (then-passed _ _ e)) i (omega arith) (omega arith));
-      }
+  passed-feeds e i h =
+      right-feeds l i h
+      (not-false _ (first-nothing (fedWrongly l) (rows l) 0 (tree-passed _ (then-passed _ _ e)) i (omega arith) (omega arith)))
 
-  pub in-range-passes : InRange l → Feeds l → rowsTest l ≡ Passed
+  -- no row is at fault, and none fed wrongly
+  pub in-range-none : rows l ≤ rowsMost → InRange l → first (rowAtFault l) 0 (rows l) ≡ Nothing
+  in-range-none few a =
+      first-none (rowAtFault l) (rows l) 0 (λ i x y. rw (eq-eqb _ _ (row-no-fault l i (omega arith) (a i (omega arith)))))
+
+  pub feeds-none : Feeds l → first (fedWrongly l) 0 (rows l) ≡ Nothing
+  feeds-none b = first-none (fedWrongly l) (rows l) 0 (λ i x y. rw (feeds-right l i (omega arith) (b i (omega arith))))
+
+  pub in-range-passes : rows l ≤ rowsMost → InRange l → Feeds l → rowsTest l ≡ Passed
   unfolding rowsTest treeTest fieldAnswer treeAnswer
-  in-range-passes a b =
-      rw (
-        first-none (rowAtFault l) (rows l) 0 (λ i x y. rw
-            (eq-eqb _ _ (fault-free l i (λ k h. a .fields-right i k (omega arith) h) (a .low-at-most-high i (omega arith))))),
-        first-none (fedWrongly l) (rows l) 0 (λ i x y. rw (b .feeds-right i (omega arith))),
-      )
-
--- the bounds of a row of a list in range
-module _ (l : List ℕ) (a : InRange l) (i : ℕ) (h : i < rows l) where
-  pub field-from : (k : ℕ) → k < fieldCount → leastIn bounds k ≤ field l i k
-  field-from k b = right-from l i k (a .fields-right i k h b)
-
-  pub field-to : (k : ℕ) → k < fieldCount → field l i k ≤ greatestIn bounds k
-  field-to k b = right-to l i k (a .fields-right i k h b)
-
-  pub row-bounded : Bounded (rowAt l i)
-  row-bounded =
-      record {
-        volts-from = field-from atVolts (omega arith);
-        volts-to = field-to atVolts (omega arith);
-        work-to = field-to atWork (omega arith);
-        selfstart-to = field-to atSelfstart (omega arith);
-        return-from = field-from atReturn (omega arith);
-        return-to = field-to atReturn (omega arith);
-        far-to = field-to atFar (omega arith);
-        clear-to = field-to atClear (omega arith);
-        near-to = field-to atNear (omega arith);
-        factor-to = field-to atFactor (omega arith);
-        high-to = field-to atHigh (omega arith);
-        step-from = field-from atStep (omega arith);
-        ceiling-to = field-to atCeiling (omega arith);
-      }
+  in-range-passes few a b = rw (in-range-none few a, feeds-none b)
 
 -- the feeding row of a row: above it, and a row of the list; of the last row none
 module _ (l : List ℕ) (b : Feeds l) (i : ℕ) (h : i < rows l) where
-  pub feeder-above : (i + 1 ≡ rows l → ⊥) → (i + 1 < field l i atFeeder) × (field l i atFeeder ≤ rows l)
-  unfolding feedsRight
+  pub feeder-above : (i + 1 ≡ rows l → ⊥) → (i + 1 < rowAt l i .feeder) × (rowAt l i .feeder ≤ rows l)
   feeder-above n =
-      let f = field l i atFeeder in
-      let line = not (eqb (field l (f - 1) atKind) 3) in
-      let e : (ltb (i + 1) f && (leb f (rows l) && line)) ≡ true = rw (ne-eqb (i + 1) (rows l) n) at (b .feeds-right i h) in
-      (ltb-true _ _ (and-left _ _ e), leb-true f (rows l) (and-left (leb f (rows l)) line (and-right (ltb (i + 1) f) (leb f (rows l) && line) e)))
+      let f = b i h in
+      let m : i + 1 < rows l = omega arith in
+      (f .by-a-greater m, f .by-a-row m)
 
-  pub feeder-of-last : i + 1 ≡ rows l → field l i atFeeder ≡ 0
-  unfolding feedsRight
-  feeder-of-last n = eqb-true _ _ (rw (eq-eqb (i + 1) (rows l) n) at (b .feeds-right i h))
+  pub feeder-of-last : i + 1 ≡ rows l → rowAt l i .feeder ≡ 0
+  feeder-of-last = b i h .last-has-0

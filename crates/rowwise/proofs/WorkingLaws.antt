@@ -19,7 +19,7 @@ use Rattle.layout.specs.Counts.{columnCount}
 use Rattle.layout.specs.List.{rows, rowAt}
 use Rattle.layout.specs.View.{viewOf}
 use Rattle.layout.proofs.CardLaws.{putCardRow-length, putCardRow-own, putCardRow-other}
-use Rattle.rows.proofs.InRangeLaws.{row-bounded, feeder-above, feeder-of-last}
+use Rattle.rows.proofs.InRangeLaws.{feeder-above, feeder-of-last}
 use Rattle.settle.specs.declared.Fed.{Fed}
 use Rattle.settle.specs.declared.Outcome.{Outcome}
 use Rattle.settle.specs.declared.Settled.the-variants.{Set}
@@ -52,7 +52,7 @@ shortfall-to r = counted-to (eqb (r .backed) 1) (reach - r .far * r .volts) reac
 module _ (l : List ℕ) (done matters : ℕ → Bool) (c s : List ℕ) (w : Working l done matters c s) where
   excess-to : (j : ℕ) → j < rows l → done j ≡ true → excess (rowAt l j) (cardRowAt c j) ≤ 110000000000000
   excess-to j b g =
-      let q = row-bounded l (w .in-range) j b in
+      let q = w .in-range j b .bounded in
       omega (arith, current-volts (w .settings-to j b g .pickup-to) (q .volts-to))
 
   earliest-to : (j : ℕ) → j < rows l → done j ≡ true → earliest (rowAt l j) (cardRowAt c j) ≤ 100500
@@ -64,7 +64,7 @@ module _ (l : List ℕ) (done matters : ℕ → Bool) (c s : List ℕ) (w : Work
         load-to =
             le-trans
             (sumTo-bound _ 50000000000000 (rows l)
-            (λ j b. counted-to (done j && fed (viewOf l) k j) (loadOf (viewOf l) j) _ (λ _. load-bounded (row-bounded l (w .in-range) j b))))
+            (λ j b. counted-to (done j && fed (viewOf l) k j) (loadOf (viewOf l) j) _ (λ _. load-bounded (w .in-range j b .bounded))))
             (mul-le-mul-right 50000000000000 (w .rows-to));
         excess-to =
             maxTo-bound _ 110000000000000 (rows l)
@@ -102,7 +102,7 @@ module _ (l : List ℕ) (done matters : ℕ → Bool) (c s : List ℕ) (w : Work
           in-list = omega arith;
           in-card = omega (arith, w .card-room);
           in-sums = omega (arith, w .sums-room);
-          bounded = row-bounded l (w .in-range) i h;
+          bounded = w .in-range i h .bounded;
           fed-bounded = sums-bounded i h m;
           feeder = has-feeder;
         }
@@ -119,10 +119,10 @@ module _ (l : List ℕ) (done matters : ℕ → Bool) (c s : List ℕ) (w : Work
       (maxTo-same _ _ (rows l) (λ j b. counted-all (done j) (fed (viewOf l) i j) (excess (rowAt l j) (cardRowAt c j)) (all j b)))
       (maxTo-same _ _ (rows l) (λ j b. counted-all (done j) (fed (viewOf l) i j) (shortfall (rowAt l j)) (all j b)))
       (maxTo-same _ _ (rows l) (λ j b. counted-all (done j) (fed (viewOf l) i j) (earliest (rowAt l j) (cardRowAt c j)) (all j b)))) ∙
-      settled-by (viewOf l) (λ j b. row-bounded l (w .in-range) j b) (cardRowAt c) i h
+      settled-by (viewOf l) (λ j b. w .in-range j b .bounded) (cardRowAt c) i h
 
   pub settled-to : (i : ℕ) → i < rows l → (o : Outcome) → Set o ≡ settledBy (rowAt l i) (fedAt s i) → CardBounded (shown o)
-  settled-to i h o set = set-bounded _ _ o (row-bounded l (w .in-range) i h) set
+  settled-to i h o set = set-bounded _ _ o (w .in-range i h .bounded) set
 
   -- row i is written into the card as k, and done from then on; what mattered no longer may
   module _ (i : ℕ) (h : i < rows l) (new : done i ≡ false) (done′ : ℕ → Bool) (next : (j : ℕ) → done′ j ≡ (done j || eqb j i))

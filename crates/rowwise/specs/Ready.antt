@@ -8,7 +8,7 @@ use Rattle.layout.specs.declared.CardRow.{CardRow}
 use Rattle.layout.specs.declared.Row.{Row}
 use Rattle.layout.specs.Counts.{fieldCount, columnCount}
 use Rattle.layout.specs.List.{rowAt}
-use Rattle.rows.specs.InRange.{Bounded}
+use Rattle.layout.specs.Range.{Bounded}
 use Rattle.settle.specs.Fed.{FedBounded, CardBounded}
 use Rattle.rowwise.specs.Sums.{askCount, fedAt, Step}
 

@@ -12,7 +12,7 @@ use Rattle.fold.proofs.BoolLaws.{passes-or-fails, implies, implied, same-test}
 use Rattle.fold.proofs.FoldLaws.{Attained, maxTo-attained, le-maxTo, sumTo-zero, sumTo-others, every-at, every-of}
 use Rattle.grid.proofs.GridLaws.{leastOn-same}
 use Rattle.layout.specs.View.{View, Settings}
-use Rattle.rows.specs.InRange.{AllBounded}
+use Rattle.layout.specs.Range.{AllBounded}
 use Rattle.settle.specs.Conditions.{fed, eachFed, loadOf, othersLoad, returnsAfterSelfStart, clearOf, seesOwnZone, backsUp, withinDelays, gradedAbove}
 use Rattle.settle.specs.Fed.{reach, excess, shortfall, earliest, gathered, clearOfAll, backsUpAll, pickupBy, delayBy, settledBy}
 use Rattle.settle.specs.Settle.{meetsPickup, meetsDelay, outcomeOf, settled}

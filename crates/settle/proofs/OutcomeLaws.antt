@@ -14,7 +14,7 @@ use Rattle.grid.specs.Round.{ceilDiv}
 use Rattle.grid.proofs.RoundLaws.{ceilDiv-leb}
 use Rattle.grid.proofs.GridLaws.{leastOn-same, leastOn-least}
 use Rattle.layout.specs.declared.Row.{Row}
-use Rattle.rows.specs.InRange.{Bounded}
+use Rattle.layout.specs.Range.{Bounded}
 use Rattle.settle.specs.declared.Cutoff.{Cutoff}
 use Rattle.settle.specs.declared.Cutoff.the-variants.{Fitted, NotFitted}
 use Rattle.settle.specs.declared.Fed.{Fed}

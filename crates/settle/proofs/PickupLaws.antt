@@ -13,7 +13,7 @@ use Rattle.fold.proofs.BoolLaws.{and-left, and-right, and-both}
 use Rattle.grid.proofs.GridLaws.{capped, leastOn-capped, leastOn-same, leastOn-least}
 use Rattle.grid.proofs.RoundLaws.{ceilDiv-leb, max-leb}
 use Rattle.layout.specs.declared.Row.{Row}
-use Rattle.rows.specs.InRange.{Bounded}
+use Rattle.layout.specs.Range.{Bounded}
 use Rattle.settle.specs.declared.Fed.{Fed}
 use Rattle.settle.specs.Conditions.{returnsAfterSelfStart, seesOwnZone, withinDelays}
 use Rattle.settle.specs.Fed.{reach, clearOfAll, backsUpAll, pickupBy, delayBy}

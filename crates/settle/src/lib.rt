@@ -10,7 +10,7 @@ ghost use mathlib.Core.Path.{_≡_};
 ghost use mathlib.Core.Bool.{_&&_};
 ghost use Prim.Native.Nat.{ℕ, _-_, _≤_};
 ghost use lib.Dec.{leb};
-ghost use Rattle.rows.specs.InRange.{Bounded};
+ghost use Rattle.layout.specs.Range.{Bounded};
 ghost use Rattle.settle.specs.Conditions.{returnsAfterSelfStart, seesOwnZone, seesNear, margin};
 ghost use Rattle.settle.specs.Fed.{clearOfAll, backsUpAll, pickupBy, delayBy, settledBy, shortfall, asked, FedBounded, CardBounded};
 ghost use Rattle.settle.specs.Settle.{leastPickup, leastDelay, cutoffOf, printed, shown};

@@ -2,7 +2,7 @@
 -- the card and to the sums.
 use borrow.Author.Needs.{needs}
 use mathlib.Core.Path.{sym, _∙_, subst}
-use Rattle.rows.specs.InRange.{Bounded}
+use Rattle.layout.specs.Range.{Bounded}
 use Rattle.settle.specs.Fed.{FedBounded, CardBounded}
 use Rattle.settle.proofs.OutcomeLaws.{set-bounded}
 use Rattle.rowwise.proofs.StepLaws.{step-unsettled, step-set}

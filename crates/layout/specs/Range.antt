@@ -1,0 +1,56 @@
+-- [01 §2; §4, 9 CARD] The tables of bounds as inequalities, by the names of the fields and columns: what a reader holds against
+-- the documents, and what the tables are proved to say. Definitions only.
+use mathlib.Core.List.{List}
+use Prim.Native.Nat.{ℕ, _≤_, _<_}
+use Rattle.layout.specs.declared.CardRow.{CardRow}
+use Rattle.layout.specs.declared.Row.{Row}
+use Rattle.layout.specs.Fields.{leastIn, greatestIn}
+use Rattle.layout.specs.View.{View}
+
+-- x is from the least to the greatest number of entry k of a table
+abbrev pub Within : List ℕ → ℕ → ℕ → Type 0
+Within table k x = (leastIn table k ≤ x) × (x ≤ greatestIn table k)
+
+-- fields 2 to 18 of a row lie within section 2's table
+pub record Bounded (r : Row) : Type 0 where
+  pub feeder-to : r .feeder ≤ 256
+  pub kind-from : 1 ≤ r .kind
+  pub kind-to : r .kind ≤ 3
+  pub volts-from : 100 ≤ r .volts
+  pub volts-to : r .volts ≤ 500000
+  pub work-from : 1 ≤ r .work
+  pub work-to : r .work ≤ 100000000
+  pub selfstart-from : 1000 ≤ r .selfstart
+  pub selfstart-to : r .selfstart ≤ 10000
+  pub return-from : 800 ≤ r .returnfactor
+  pub return-to : r .returnfactor ≤ 1000
+  pub far-from : 1 ≤ r .far
+  pub far-to : r .far ≤ 100000000
+  pub clear-from : 1 ≤ r .clear
+  pub clear-to : r .clear ≤ 100000000
+  pub near-from : 1 ≤ r .near
+  pub near-to : r .near ≤ 100000000
+  pub factor-from : 1000 ≤ r .factor
+  pub factor-to : r .factor ≤ 2000
+  pub low-from : 1 ≤ r .low
+  pub low-to : r .low ≤ 100000000
+  pub high-from : 1 ≤ r .high
+  pub high-to : r .high ≤ 100000000
+  pub step-from : 1 ≤ r .step
+  pub step-to : r .step ≤ 100000000
+  pub device-from : 1 ≤ r .device
+  pub device-to : r .device ≤ 3
+  pub floor-to : r .floor ≤ 100000
+  pub ceiling-to : r .ceiling ≤ 100000
+  pub backed-to : r .backed ≤ 1
+
+-- every row of a view does
+abbrev pub AllBounded : View → Type 0
+AllBounded v = (j : ℕ) → j < v .count → Bounded (v .row j)
+
+-- a card row that a replacement may start from
+pub record CardRowInRange (s : CardRow) : Type 0 where
+  pub pickup-from : 1 ≤ s .pickup
+  pub pickup-to : s .pickup ≤ 100000000
+  pub delay-to : s .delay ≤ 100000
+  pub cutoff-to : s .cutoff ≤ 100000000
