@@ -1,101 +1,116 @@
 -- Settings that meet every condition pass the tests of each row, and settings that pass them row by row meet every condition.
 use mathlib.Core.Path.{_≡_}
 use mathlib.Core.Bool.{Bool, true, _&&_}
-use Prim.Native.Nat.{ℕ, _+_, _-_, _*_, _≤_, _<_}
+use Prim.Native.Nat.{ℕ, _-_, _≤_, _<_}
 use native.Mathlib.Nat.{mul-le-mul-right}
 use native.Mathlib.Omega.{arith}
-use lib.Dec.{leb}
-use borrow.Author.Tests.{leb-true, le-leb}
+use lib.Dec.{leb, eqb}
+use borrow.Author.Tests.{leb-true, le-leb, eqb-true, eq-eqb}
 use Rattle.grid.specs.Grid.{Available}
-use Rattle.fold.proofs.BoolLaws.{and-left, and-right, and-both}
+use Rattle.fold.proofs.BoolLaws.{and-left, and-right, and-both, implies, implied}
 use Rattle.grid.proofs.GridLaws.{Least, leastOn-least}
-use Rattle.layout.specs.declared.CardRow.{CardRow}
 use Rattle.layout.specs.declared.Row.{Row}
 use Rattle.layout.specs.View.{View, Settings}
 use Rattle.layout.specs.Range.{AllBounded}
-use Rattle.settle.specs.Conditions.{fed, eachFed, othersLoad, returnsAfterSelfStart, clearOf, seesOwnZone, backsUp, withinDelays, gradedAbove, margin}
+use Rattle.settle.specs.Conditions.{eachFed, returnsAfterSelfStart, clearOf, seesOwnZone, backsUp, withinDelays, gradedAbove}
 use Rattle.settle.specs.Settle.{meetsPickup, meetsDelay, leastPickup, leastDelay, shown, settled}
 use Rattle.settle.proofs.FedLaws.{each-fed-at, each-fed-of}
 use Rattle.settle.proofs.OutcomeLaws.{OutcomeIs, outcome-set}
-use Rattle.calculate.specs.Meets.{PickupsMeet, DelaysMeet, Meets}
+use Rattle.calculate.specs.Meets.{Feeding, PickupMet, DelayMet, Meets}
 use Rattle.calculate.specs.Refused.{RowSettled}
+
+-- a test over fed rows, by propositions
+module _ (v : View) (i : ℕ) (ok : ℕ → Bool) where
+  each-at : eachFed v i ok ≡ true → (j : ℕ) → j < v .count → Feeding v i j → ok j ≡ true
+  each-at e j h f = each-fed-at v i ok e j h (eq-eqb _ _ f)
+
+  each-of : ((j : ℕ) → j < v .count → Feeding v i j → ok j ≡ true) → eachFed v i ok ≡ true
+  each-of h = each-fed-of v i ok (λ j b f. h j b (eqb-true _ _ f))
 
 -- a pickup's four conditions, taken apart and put together
 module _ (v : View) (k : Settings) (i I : ℕ) where
-  lower : Bool
-  lower = returnsAfterSelfStart (v .row i) I && eachFed v i (λ j. clearOf v k i j I)
+  returns : Bool
+  returns = returnsAfterSelfStart (v .row i) I
 
-  upper : Bool
-  upper = seesOwnZone (v .row i) I && eachFed v i (λ j. backsUp (v .row i) (v .row j) I)
+  clear : ℕ → Bool
+  clear j = clearOf v k i j I
 
-  pub record PickupMet : Type 0 where
-    pub P1 : returnsAfterSelfStart (v .row i) I ≡ true
-    pub P2 : (j : ℕ) → j < v .count → fed v i j ≡ true → clearOf v k i j I ≡ true
-    pub P3 : seesOwnZone (v .row i) I ≡ true
-    pub P4 : (j : ℕ) → j < v .count → fed v i j ≡ true → backsUp (v .row i) (v .row j) I ≡ true
+  sees : Bool
+  sees = seesOwnZone (v .row i) I
 
-  pub pickup-met : meetsPickup v k i I ≡ true → PickupMet
-  unfolding meetsPickup lower upper
+  backs : ℕ → Bool
+  backs j = backsUp (v .row i) (v .row j) I
+
+  pub pickup-met : meetsPickup v k i I ≡ true → PickupMet v k i I
+  unfolding meetsPickup returns clear sees backs returnsAfterSelfStart clearOf seesOwnZone backsUp
   pickup-met t =
-      let lo = and-left lower upper t in
-      let up = and-right lower upper t in
+      let lo = and-left (returns && eachFed v i clear) (sees && eachFed v i backs) t in
+      let up = and-right (returns && eachFed v i clear) (sees && eachFed v i backs) t in
       record {
-        P1 = and-left (returnsAfterSelfStart (v .row i) I) (eachFed v i (λ j. clearOf v k i j I)) lo;
-        P2 = each-fed-at v i (λ j. clearOf v k i j I) (and-right (returnsAfterSelfStart (v .row i) I) (eachFed v i (λ j. clearOf v k i j I)) lo);
-        P3 = and-left (seesOwnZone (v .row i) I) (eachFed v i (λ j. backsUp (v .row i) (v .row j) I)) up;
+        P1 = leb-true _ _ (and-left returns (eachFed v i clear) lo);
+        P2 = λ j h f. leb-true _ _ (each-at v i clear (and-right returns (eachFed v i clear) lo) j h f);
+        P3 = leb-true _ _ (and-left sees (eachFed v i backs) up);
         P4 =
-            each-fed-at v i (λ j. backsUp (v .row i) (v .row j) I)
-            (and-right (seesOwnZone (v .row i) I) (eachFed v i (λ j. backsUp (v .row i) (v .row j) I)) up);
+            λ j h f b.
+            leb-true _ _ (implies _ _ (each-at v i backs (and-right sees (eachFed v i backs) up) j h f) (eq-eqb _ _ b));
       }
 
-  pub meets-pickup : PickupMet → meetsPickup v k i I ≡ true
-  unfolding meetsPickup
+  pub meets-pickup : PickupMet v k i I → meetsPickup v k i I ≡ true
+  unfolding meetsPickup returns clear sees backs returnsAfterSelfStart clearOf seesOwnZone backsUp
   meets-pickup m =
       and-both
-      (and-both (m .P1) (each-fed-of v i (λ j. clearOf v k i j I) (m .P2)))
-      (and-both (m .P3) (each-fed-of v i (λ j. backsUp (v .row i) (v .row j) I) (m .P4)))
+      (and-both (le-leb _ _ (m .P1)) (each-of v i clear (λ j h f. le-leb _ _ (m .P2 j h f))))
+      (and-both (le-leb _ _ (m .P3)) (each-of v i backs (λ j h f. implied _ _ (λ b. le-leb _ _ (m .P4 j h f (eqb-true _ _ b))))))
 
 module _ (v : View) (k : Settings) (i t : ℕ) where
-  pub record DelayMet : Type 0 where
-    pub D1 : withinDelays (v .row i) t ≡ true
-    pub D2 : (j : ℕ) → j < v .count → fed v i j ≡ true → gradedAbove (v .row j) (k j) t ≡ true
+  within : Bool
+  within = withinDelays (v .row i) t
 
-  pub delay-met : meetsDelay v k i t ≡ true → DelayMet
-  unfolding meetsDelay
+  graded : ℕ → Bool
+  graded j = gradedAbove (v .row j) (k j) t
+
+  pub delay-met : meetsDelay v k i t ≡ true → DelayMet v k i t
+  unfolding meetsDelay within graded withinDelays gradedAbove
   delay-met m =
+      let d = and-left within (eachFed v i graded) m in
+      let rest = and-right (leb (v .row i .floor) t) _ d in
       record {
-        D1 = and-left (withinDelays (v .row i) t) (eachFed v i (λ j. gradedAbove (v .row j) (k j) t)) m;
-        D2 =
-            each-fed-at v i (λ j. gradedAbove (v .row j) (k j) t)
-            (and-right (withinDelays (v .row i) t) (eachFed v i (λ j. gradedAbove (v .row j) (k j) t)) m);
+        D1 = (
+          leb-true _ _ (and-left (leb (v .row i .floor) t) _ d),
+          leb-true _ _ (and-left (leb t (v .row i .ceiling)) _ rest),
+          λ q. leb-true _ _ (implies (eqb (v .row i .kind) 3) _ (and-right (leb t (v .row i .ceiling)) _ rest) (eq-eqb _ _ q)),
+        );
+        D2 = λ j h f. leb-true _ _ (each-at v i graded (and-right within (eachFed v i graded) m) j h f);
       }
 
-  pub meets-delay : DelayMet → meetsDelay v k i t ≡ true
-  unfolding meetsDelay
-  meets-delay m = and-both (m .D1) (each-fed-of v i (λ j. gradedAbove (v .row j) (k j) t) (m .D2))
+  pub meets-delay : DelayMet v k i t → meetsDelay v k i t ≡ true
+  unfolding meetsDelay within graded withinDelays gradedAbove
+  meets-delay m =
+      let d = m .D1 in
+      and-both
+      (and-both (le-leb _ _ (d .0)) (and-both (le-leb _ _ (d .1)) (implied _ _ (λ q. le-leb _ _ (d .2 (eqb-true _ _ q))))))
+      (each-of v i graded (λ j h f. le-leb _ _ (m .D2 j h f)))
 
 -- a lower pickup or a shorter delay below asks no more
-pub clearOf-down :
-    (v : View) (k k′ : Settings) (i j I : ℕ) → k j .pickup ≤ k′ j .pickup → clearOf v k′ i j I ≡ true → clearOf v k i j I ≡ true
-unfolding clearOf
-clearOf-down v k k′ i j I h t =
-    let m = mul-le-mul-right (v .row j .volts) h in
-    let g : 11 * (k′ j .pickup * v .row j .volts + othersLoad v i j) ≤ 10 * I * v .row i .volts = leb-true _ _ t in
-    le-leb (11 * (k j .pickup * v .row j .volts + othersLoad v i j)) (10 * I * v .row i .volts) (omega arith)
+module _ (v : View) (k k′ : Settings) (i : ℕ) where
+  pub pickup-down :
+      (I : ℕ) → ((j : ℕ) → j < v .count → Feeding v i j → k j .pickup ≤ k′ j .pickup) → PickupMet v k′ i I → PickupMet v k i I
+  pickup-down I u m =
+      record {
+        P1 = m .P1;
+        P2 = λ j h f. let q = mul-le-mul-right (v .row j .volts) (u j h f) in omega (arith, m .P2 j h f);
+        P3 = m .P3;
+        P4 = m .P4;
+      }
 
-pub gradedAbove-down : (f : Row) (s s′ : CardRow) (t : ℕ) → s .delay ≤ s′ .delay → gradedAbove f s′ t ≡ true → gradedAbove f s t ≡ true
-unfolding gradedAbove
-gradedAbove-down f s s′ t h e =
-    let g : s′ .delay + margin (f .device) ≤ t = leb-true _ _ e in
-    le-leb (s .delay + margin (f .device)) t (omega arith)
+  pub delay-down :
+      (t : ℕ) → ((j : ℕ) → j < v .count → Feeding v i j → k j .delay ≤ k′ j .delay) → DelayMet v k′ i t → DelayMet v k i t
+  delay-down t u m = record { D1 = m .D1; D2 = λ j h f. omega (arith, u j h f, m .D2 j h f) }
 
 -- a delay that D1 allows is one of floor, floor + 1, .. up to ceiling
-pub delay-available : (r : Row) (t : ℕ) → withinDelays r t ≡ true → Available (r .floor) (r .ceiling) 1 t
-unfolding withinDelays
-delay-available r t e =
-    let lo = leb-true (r .floor) t (and-left (leb (r .floor) t) _ e) in
-    let hi = leb-true t (r .ceiling) (and-left (leb t (r .ceiling)) _ (and-right (leb (r .floor) t) _ e)) in
-    record { steps = t - r .floor; on-grid = omega arith; within = hi }
+pub delay-available :
+    (r : Row) (t : ℕ) → (r .floor ≤ t) × (t ≤ r .ceiling) × (r .kind ≡ 3 → 100 ≤ t) → Available (r .floor) (r .ceiling) 1 t
+delay-available r t d = record { steps = t - r .floor; on-grid = omega (arith, d .0); within = d .1 }
 
 -- what a settled row's settings are: available, meeting the conditions, and least
 module _ (v : View) (a : AllBounded v) (k : Settings) (i : ℕ) (h : i < v .count) (s : RowSettled v k i) where
@@ -113,24 +128,18 @@ module _ (v : View) (a : AllBounded v) (k : Settings) (i : ℕ) (h : i < v .coun
   delay-least =
       rw (s .shows) (leastOn-least _ _ 1 (omega arith) (meetsDelay v k i) (s .outcome .delay) (is-outcome .delay-found))
 
+  -- it meets the conditions
+  pub settled-pickup : PickupMet v k i (k i .pickup)
+  settled-pickup = pickup-met v k i (k i .pickup) (pickup-least .passes)
+
+  pub settled-delay : DelayMet v k i (k i .delay)
+  settled-delay = delay-met v k i (k i .delay) (delay-least .passes)
+
 -- settings whose rows are all settled meet every condition
-module _ (v : View) (a : AllBounded v) (k : Settings) (all : (j : ℕ) → j < v .count → RowSettled v k j) where
-  met : (i : ℕ) → i < v .count → PickupMet v k i (k i .pickup)
-  met i h = pickup-met v k i (k i .pickup) (pickup-least v a k i h (all i h) .passes)
-
-  timed : (i : ℕ) → i < v .count → DelayMet v k i (k i .delay)
-  timed i h = delay-met v k i (k i .delay) (delay-least v a k i h (all i h) .passes)
-
-  pub settled-meets : Meets v k
-  settled-meets =
-      record {
-        pickups =
-            record {
-              available = λ i h. pickup-least v a k i h (all i h) .available;
-              P1 = λ i h. met i h .P1;
-              P2 = λ i j h. met i h .P2 j;
-              P3 = λ i h. met i h .P3;
-              P4 = λ i j h. met i h .P4 j;
-            };
-        delays = record { D1 = λ i h. timed i h .D1; D2 = λ i j h. timed i h .D2 j };
-      }
+pub settled-meets : (v : View) → AllBounded v → (k : Settings) → ((j : ℕ) → j < v .count → RowSettled v k j) → Meets v k
+settled-meets v a k all =
+    record {
+      pickups =
+          record { available = λ i h. pickup-least v a k i h (all i h) .available; met = λ i h. settled-pickup v a k i h (all i h) };
+      delays = λ i h. settled-delay v a k i h (all i h);
+    }

@@ -1,27 +1,39 @@
--- Demand 2: when settings meet every condition of section 3 together, in all rows at once: the pickups by themselves, and the
--- delays by themselves. k gives each row its settings; rows are counted from 0. Definitions only.
+-- Demand 2: when settings meet every condition of section 3, each condition by its inequality: of one row, the rows that it feeds
+-- being at the settings k, and of all rows at once. k gives each row its settings; rows are counted from 0. Definitions only.
 use mathlib.Core.Path.{_≡_}
-use mathlib.Core.Bool.{true}
-use Prim.Native.Nat.{ℕ, _<_}
+use Prim.Native.Nat.{ℕ, _+_, _*_, _≤_, _<_}
 use Rattle.grid.specs.Grid.{Available}
 use Rattle.layout.specs.declared.Row.{Row}
 use Rattle.layout.specs.View.{View, Settings}
-use Rattle.settle.specs.Conditions.{fed, returnsAfterSelfStart, clearOf, seesOwnZone, backsUp, withinDelays, gradedAbove}
+use Rattle.settle.specs.Conditions.{othersLoad, margin}
 
 -- x is one of the pickups that a row's relay offers
 abbrev pub AvailableOn : Row → ℕ → Type 0
 AvailableOn r x = Available (r .low) (r .high) (r .step) x
 
+-- row i feeds row j
+abbrev pub Feeding : View → ℕ → ℕ → Type 0
+Feeding v i j = v .row j .feeder ≡ i + 1
+
+-- pickup I of row i meets P1 to P4
+pub record PickupMet (v : View) (k : Settings) (i I : ℕ) : Type 0 where
+  pub P1 : 11 * v .row i .selfstart * v .row i .work ≤ 10 * I * v .row i .returnfactor
+  pub P2 : (j : ℕ) → j < v .count → Feeding v i j → 11 * (k j .pickup * v .row j .volts + othersLoad v i j) ≤ 10 * I * v .row i .volts
+  pub P3 : 15 * I ≤ 10 * v .row i .far
+  pub P4 : (j : ℕ) → j < v .count → Feeding v i j → v .row j .backed ≡ 1 → 12 * I * v .row i .volts ≤ 10 * v .row j .far * v .row j .volts
+
+-- delay t of row i meets D1 and D2
+pub record DelayMet (v : View) (k : Settings) (i t : ℕ) : Type 0 where
+  pub D1 : (v .row i .floor ≤ t) × (t ≤ v .row i .ceiling) × (v .row i .kind ≡ 3 → 100 ≤ t)
+  pub D2 : (j : ℕ) → j < v .count → Feeding v i j → k j .delay + margin (v .row j .device) ≤ t
+
+-- every row's pickup is available and meets P1 to P4; every row's delay meets D1 and D2; both
 pub record PickupsMeet (v : View) (k : Settings) : Type 0 where
   pub available : (i : ℕ) → i < v .count → AvailableOn (v .row i) (k i .pickup)
-  pub P1 : (i : ℕ) → i < v .count → returnsAfterSelfStart (v .row i) (k i .pickup) ≡ true
-  pub P2 : (i j : ℕ) → i < v .count → j < v .count → fed v i j ≡ true → clearOf v k i j (k i .pickup) ≡ true
-  pub P3 : (i : ℕ) → i < v .count → seesOwnZone (v .row i) (k i .pickup) ≡ true
-  pub P4 : (i j : ℕ) → i < v .count → j < v .count → fed v i j ≡ true → backsUp (v .row i) (v .row j) (k i .pickup) ≡ true
+  pub met : (i : ℕ) → i < v .count → PickupMet v k i (k i .pickup)
 
-pub record DelaysMeet (v : View) (k : Settings) : Type 0 where
-  pub D1 : (i : ℕ) → i < v .count → withinDelays (v .row i) (k i .delay) ≡ true
-  pub D2 : (i j : ℕ) → i < v .count → j < v .count → fed v i j ≡ true → gradedAbove (v .row j) (k j) (k i .delay) ≡ true
+abbrev pub DelaysMeet : View → Settings → Type 0
+DelaysMeet v k = (i : ℕ) → i < v .count → DelayMet v k i (k i .delay)
 
 pub record Meets (v : View) (k : Settings) : Type 0 where
   pub pickups : PickupsMeet v k
