@@ -97,7 +97,8 @@ fn push_found(list: &[u64], j: usize, card: &[u64], sums: &mut [u64])
 // Adds what every row off the path of row i asks. The rows of a path ascend: `next` is the next of them.
 fn push_rest(list: &[u64], i: usize, card: &[u64], sums: &mut [u64])
     requires { ⌜ RestReady (now list) i (now card) (now sums) ⌝ }
-    ensures { λ _. ⌜ Working (now (list .entry)) (λ j. not (onPath (now (list .entry)) i j)) (onPath (now (list .entry)) i) (now (card .entry)) (now (sums .exit)) ⌝ }
+    ensures { λ _. ⌜ Working (now (list .entry)) (λ j. not (onPath (now (list .entry)) i j)) (onPath (now (list .entry)) i)
+        (now (card .entry)) (now (sums .exit)) ⌝ }
 {
     let n = list.len() / FIELDS;
     let mut next = i;

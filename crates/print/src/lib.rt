@@ -86,7 +86,9 @@ fn can_print(size: usize, names: &[u64], card: usize, n: usize, room: usize) -> 
 // The line of row i.
 fn put_row(out: &mut [u8], at: usize, text: &[u8], names: &[u64], card: &[u64], i: usize) -> usize
     requires { ⌜ RowFits (length (now text)) (now names) (length (now card)) i at (length (now out)) ⌝ }
-    ensures { λ r. ⌜ Wrote (now (out .entry)) at (lineText (nameAtPlace (now (text .entry)) (drop (i * 2) (now (names .entry)))) (drop (i * columnCount) (now (card .entry)))) (now (out .exit)) r ⌝ }
+    ensures { λ r. ⌜ Wrote (now (out .entry)) at
+        (lineText (nameAtPlace (now (text .entry)) (drop (i * 2) (now (names .entry)))) (drop (i * columnCount) (now (card .entry))))
+        (now (out .exit)) r ⌝ }
 {
     let place = i * 2;
     let start = names[place] as usize;
@@ -111,7 +113,9 @@ fn put_rows(out: &mut [u8], at: usize, text: &[u8], names: &[u64], card: &[u64],
 // The card of n rows: names as they stand in the text, by their start and length, and three numbers for each.
 // Nothing where there is no room for the longest lines, or names or card have no n rows.
 pub fn print_card(text: &[u8], names: &[u64], card: &[u64], n: usize, out: &mut [u8]) -> usize
-    ensures { λ r. ⌜ Printed (now (out .entry)) (cardPrinted (now (text .entry)) (now (names .entry)) (now (card .entry)) n (length (now (out .entry)))) (now (out .exit)) r ⌝ }
+    ensures { λ r. ⌜ Printed (now (out .entry))
+        (cardPrinted (now (text .entry)) (now (names .entry)) (now (card .entry)) n (length (now (out .entry))))
+        (now (out .exit)) r ⌝ }
 {
     if !can_print(text.len(), names, card.len(), n, out.len()) {
         return 0;

@@ -48,7 +48,8 @@ pub fn read_rows(
     names: &mut [u64],
 ) -> Reading
     requires { ⌜ Ready columns from ⌝ }
-    ensures { λ r. ⌜ LinesTaken columns (from .at) (from .line) (lines (drop (from .at) (now (text .entry)))) (now (numbers .entry)) (now (names .entry)) (now (numbers .exit)) (now (names .exit)) r ⌝ }
+    ensures { λ r. ⌜ LinesTaken columns (from .at) (from .line) (lines (drop (from .at) (now (text .entry))))
+        (now (numbers .entry)) (now (names .entry)) (now (numbers .exit)) (now (names .exit)) r ⌝ }
 {
     let mut c = from;
     let mut n = 0;
@@ -83,7 +84,8 @@ pub fn read_text(
 ) -> Reading
     requires { ⌜ Ready columns from ⌝ }
     requires { ⌜ from .at ≤ length (now text) ⌝ }
-    ensures { λ r. ⌜ TextTaken (now (header .entry)) columns (from .at) (from .line) (drop (from .at) (now (text .entry))) (now (numbers .entry)) (now (names .entry)) (now (numbers .exit)) (now (names .exit)) r ⌝ }
+    ensures { λ r. ⌜ TextTaken (now (header .entry)) columns (from .at) (from .line) (drop (from .at) (now (text .entry)))
+        (now (numbers .entry)) (now (names .entry)) (now (numbers .exit)) (now (names .exit)) r ⌝ }
 {
     let at = from.at;
     if TEXT_MOST < text.len() - at {

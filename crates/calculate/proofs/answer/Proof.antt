@@ -1,11 +1,13 @@
 -- `calculate::answer` meets its contract: each return is a way in which the calculation ends; the local card stands for the lent one,
 -- since a calculation does not depend on the card before it.
+use Prim.Native.Nat.{_*_}
 use native.Mathlib.Omega.{arith}
 use borrow.Author.Needs.{needs}
 use mathlib.Core.Path.{_≡_}
 use lib.Dec.{lit≤}
 use lib.ListN.{length}
-use Rattle.layout.specs.Counts.{cardMost}
+use Rattle.layout.specs.Counts.{cardMost, rowsMost}
+use Rattle.rowwise.specs.Sums.{askCount}
 use Rattle.rowwise.proofs.StartLaws.{clear-reads}
 use Rattle.calculate.proofs.AnswerLaws.{answered-size, answered-rows, own-ready, rows-to, room-for, answered-refused, answered-done}
 use Rattle.calculate.proofs.answer.Statement.{statement}
@@ -54,7 +56,7 @@ work-all-requires c κs =
     let at-test-size = at-enum-told .before .before in
     let start = at-test-size .before .before .before in
     own-ready (start .args .list .now) (start .args .card .now) _ (at-test-size .test-size .ensures) (at-enum-told .enum-told .given .1) _
-    (at-test-rows .test-rows .ensures) (at-enum-told2 .enum-told2 .given .1) _ _ (lit≤ tt) (lit≤ tt) (clear-reads 1024)
+    (at-test-rows .test-rows .ensures) (at-enum-told2 .enum-told2 .given .1) _ _ (lit≤ tt) (lit≤ tt) (clear-reads (rowsMost * askCount))
 
 enum-known-worked : tie.Need-enum-known-worked
 enum-known-worked c = search needs
