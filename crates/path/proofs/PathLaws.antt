@@ -100,7 +100,7 @@ module _ (l : List ℕ) (b : Feeds l) where
         (λ g. up i j h k g (climbing n (field l i atFeeder - 1) j (k .within) (omega (arith, k .above)) g)))
         (passes-or-fails (eqb (field l i atFeeder) 0))
 
-    on-path : (i j : ℕ) → i < rows l → onPath l i j ≡ true → P i j
+    pub on-path : (i j : ℕ) → i < rows l → onPath l i j ≡ true → P i j
     on-path i j h o = climbing (rows l) i j h (omega arith) o
 
   pub on-above : (i j : ℕ) → i < rows l → onPath l i j ≡ true → i ≤ j

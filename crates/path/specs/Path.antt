@@ -1,10 +1,17 @@
--- [01 §2] A row's path: the row itself and then the path of its feeding row. Rows are counted from 0. Definitions only.
+-- [01 §2] A row's path: the row itself and then the path of its feeding row. Rows are counted from 0. `OnPath` says it as a
+-- reader would; `pathOf` lists the same rows (proofs/OnPathLaws.antt). Definitions only.
+use mathlib.Core.Path.{_≡_}
 use mathlib.Core.Bool.{Bool, false, cond, _||_}
 use mathlib.Core.List.{List, [], _∷_}
 use Prim.Native.Nat.{ℕ, zero, suc, _-_}
 use lib.Dec.{eqb}
 use Rattle.layout.specs.Fields.{atFeeder}
 use Rattle.layout.specs.List.{rows, field}
+
+-- row j is on the path of row i: it is that row itself, or on the path of the row that feeds it
+pub data OnPath (l : List ℕ) : ℕ → ℕ → Type 0 where
+  itself : (i : ℕ) → OnPath l i i
+  above : (i j : ℕ) → (field l i atFeeder ≡ 0 → ⊥) → OnPath l (field l i atFeeder - 1) j → OnPath l i j
 
 -- the path from row i, of at most n rows
 unfoldable pub pathFrom : List ℕ → ℕ → ℕ → List ℕ
