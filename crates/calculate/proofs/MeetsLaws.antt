@@ -1,5 +1,5 @@
 -- Settings that meet every condition pass the tests of each row, and settings that pass them row by row meet every condition.
-use mathlib.Core.Path.{_≡_}
+use mathlib.Core.Path.{_≡_, refl, ap, _∙_}
 use mathlib.Core.Bool.{Bool, true, _&&_}
 use Prim.Native.Nat.{ℕ, _-_, _≤_, _<_}
 use native.Mathlib.Nat.{mul-le-mul-right}
@@ -7,16 +7,21 @@ use native.Mathlib.Omega.{arith}
 use lib.Dec.{leb, eqb}
 use borrow.Author.Tests.{leb-true, le-leb, eqb-true, eq-eqb}
 use Rattle.grid.specs.Grid.{Available}
-use Rattle.fold.proofs.BoolLaws.{and-left, and-right, and-both, implies, implied}
-use Rattle.grid.proofs.GridLaws.{Least, leastOn-least}
+use Rattle.answers.specs.declared.Reason.the-variants.{Pickup, Delay}
+use Rattle.fold.specs.declared.Found.{Found}
+use Rattle.fold.specs.declared.Found.the-variants.{At, Nothing}
+use Rattle.fold.proofs.BoolLaws.{and-left, and-right, and-both, implies, implied, fails, not-both}
+use Rattle.grid.proofs.GridLaws.{Least, leastOn-least, leastOn-is, leastOn-none, leastOn-nothing}
+use Rattle.layout.specs.declared.CardRow.{CardRow}
 use Rattle.layout.specs.declared.Row.{Row}
 use Rattle.layout.specs.View.{View, Settings}
 use Rattle.layout.specs.Range.{AllBounded}
+use Rattle.settle.specs.declared.Settled.the-variants.{Set, Unset}
 use Rattle.settle.specs.Conditions.{eachFed, returnsAfterSelfStart, clearOf, seesOwnZone, backsUp, withinDelays, gradedAbove}
-use Rattle.settle.specs.Settle.{meetsPickup, meetsDelay, leastPickup, leastDelay, shown, settled}
+use Rattle.settle.specs.Settle.{meetsPickup, meetsDelay, leastPickup, leastDelay, cutoffOf, printed, shown, outcomeOf, settled}
 use Rattle.settle.proofs.FedLaws.{each-fed-at, each-fed-of}
 use Rattle.settle.proofs.OutcomeLaws.{OutcomeIs, outcome-set}
-use Rattle.calculate.specs.Meets.{Feeding, PickupMet, DelayMet, Meets}
+use Rattle.calculate.specs.Meets.{Feeding, PickupMet, DelayMet, SomePickup, NoPickup, NoDelay, LeastRow, Meets}
 use Rattle.calculate.specs.Refused.{RowSettled}
 
 -- a test over fed rows, by propositions
@@ -128,18 +133,63 @@ module _ (v : View) (a : AllBounded v) (k : Settings) (i : ℕ) (h : i < v .coun
   delay-least =
       rw (s .shows) (leastOn-least _ _ 1 (omega arith) (meetsDelay v k i) (s .outcome .delay) (is-outcome .delay-found))
 
-  -- it meets the conditions
-  pub settled-pickup : PickupMet v k i (k i .pickup)
-  settled-pickup = pickup-met v k i (k i .pickup) (pickup-least .passes)
+  pub settled-least : LeastRow v k i
+  unfolding shown
+  settled-least =
+      record {
+        available = pickup-least .available;
+        pickup = pickup-met v k i (k i .pickup) (pickup-least .passes);
+        no-lower = λ I g m. pickup-least .least I g (meets-pickup v k i I m);
+        delay = delay-met v k i (k i .delay) (delay-least .passes);
+        no-shorter = λ t m. delay-least .least t (delay-available (v .row i) t (m .D1)) (meets-delay v k i t m);
+        cutoff = ap (λ (s : CardRow). s .cutoff) (s .shows) ∙ ap printed (is-outcome .cutoff-is);
+      }
 
-  pub settled-delay : DelayMet v k i (k i .delay)
-  settled-delay = delay-met v k i (k i .delay) (delay-least .passes)
+-- the other way: what is settled where such settings stand there, where no pickup fits, and where one fits and no delay
+module _ (v : View) (a : AllBounded v) (k : Settings) (i : ℕ) (h : i < v .count) where
+  pub least-settled : LeastRow v k i → RowSettled v k i
+  unfolding settled outcomeOf shown
+  least-settled m =
+      record {
+        outcome = record { pickup = k i .pickup; delay = k i .delay; cutoff = cutoffOf (v .row i) };
+        settles =
+            rw (
+              leastOn-is _ _ _ (a i h .step-from) (meetsPickup v k i) (k i .pickup) (record {
+                available = m .available;
+                passes = meets-pickup v k i (k i .pickup) (m .pickup);
+                least = λ I g t. m .no-lower I g (pickup-met v k i I t);
+              }),
+              leastOn-is _ _ 1 (omega arith) (meetsDelay v k i) (k i .delay) (record {
+                available = delay-available (v .row i) (k i .delay) (m .delay .D1);
+                passes = meets-delay v k i (k i .delay) (m .delay);
+                least = λ t _ d. m .no-shorter t (delay-met v k i t d);
+              }),
+            );
+        shows = λ t. record { pickup = k i .pickup; delay = k i .delay; cutoff = m .cutoff t };
+      }
+
+  pub no-pickup-unset : NoPickup v k i → settled v k i ≡ Unset Pickup
+  unfolding settled outcomeOf
+  no-pickup-unset n =
+      rw (leastOn-none _ _ _ (a i h .step-from) (meetsPickup v k i) (λ I g. fails (meetsPickup v k i I) (λ t. n I g (pickup-met v k i I t))))
+
+  pub no-delay-unset : SomePickup v k i → NoDelay v k i → settled v k i ≡ Unset Delay
+  unfolding settled outcomeOf
+  no-delay-unset p n =
+      rw (leastOn-none _ _ 1 (omega arith) (meetsDelay v k i) (λ t _. fails (meetsDelay v k i t) (λ d. n t (delay-met v k i t d))))
+      (by-cases (leastPickup (v .row i) (meetsPickup v k i)) refl)
+    where
+      by-cases : (f : Found) → leastPickup (v .row i) (meetsPickup v k i) ≡ f → outcomeOf (v .row i) f Nothing ≡ Unset Delay
+      by-cases (At I) e = refl
+      by-cases Nothing e =
+          absurd
+          (not-both (meets-pickup v k i (p .0) (p .2)) (leastOn-nothing _ _ _ (a i h .step-from) (meetsPickup v k i) e (p .0) (p .1)))
 
 -- settings whose rows are all settled meet every condition
 pub settled-meets : (v : View) → AllBounded v → (k : Settings) → ((j : ℕ) → j < v .count → RowSettled v k j) → Meets v k
 settled-meets v a k all =
     record {
       pickups =
-          record { available = λ i h. pickup-least v a k i h (all i h) .available; met = λ i h. settled-pickup v a k i h (all i h) };
-      delays = λ i h. settled-delay v a k i h (all i h);
+          record { available = λ i h. pickup-least v a k i h (all i h) .available; met = λ i h. settled-least v a k i h (all i h) .pickup };
+      delays = λ i h. settled-least v a k i h (all i h) .delay;
     }
