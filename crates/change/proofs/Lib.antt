@@ -1,4 +1,5 @@
 pub mod AcceptLaws
+pub mod AlongLaws
 pub mod Demand3
 pub mod EditLaws
 pub mod EditedLaws

@@ -31,6 +31,17 @@ use Rattle.calculate.proofs.SettledLaws.{Settles}
 use Rattle.path.specs.Path.{pathOf, onPath}
 use Rattle.path.proofs.PathLaws.{fed-climbs, source-last, path-source, path-fed, on-fed, on-self, on-feeder, off-below}
 
+-- a row put in that row j does not feed, and is not, leaves row j settled
+module _ (l : List ℕ) (j x : ℕ) (c : List ℕ) (k : CardRow) where
+  pub put-settled : fed (viewOf l) j x ≡ false → settled (viewOf l) (cardRowAt (putCardRow c x k)) j ≡ settled (viewOf l) (cardRowAt c) j
+  put-settled n =
+      settled-same (viewOf l) (viewOf l) (cardRowAt (putCardRow c x k)) (cardRowAt c) j refl refl (λ y _. refl) (λ y _ _. refl)
+      (λ y _ f. putCardRow-other c x k y (λ e. not-both f (rw e n)))
+
+  pub put-settles : fed (viewOf l) j x ≡ false → (j ≡ x → ⊥) → Settles l c j → Settles l (putCardRow c x k) j
+  put-settles n o s =
+      record { outcome = s .outcome; settles = put-settled n ∙ s .settles; shows = putCardRow-other c x k j o ∙ s .shows }
+
 -- a row at its own least settings is written with what stands there
 workOut-skip : (l : List ℕ) (j : ℕ) (is c : List ℕ) → Settles l c j → workOut l (j ∷ is) c ≡ workOut l is c
 unfolding workOut onSettled
@@ -56,16 +67,7 @@ module _ (l : List ℕ) (b : Feeds l) (i : ℕ) (h : i < rows l) where
   rests-next : (k : ℕ) (c : List ℕ) (o : CardRow) → onPath l i k ≡ true → Rests c → Rests (putCardRow c k o)
   unfolding Rests
   rests-next k c o on r j g off =
-      let s = r j g off in
-      let n : j ≡ k → ⊥ = λ e. not-both on (rw (← e) off) in
-      record {
-        outcome = s .outcome;
-        settles =
-            settled-same (viewOf l) (viewOf l) (cardRowAt (putCardRow c k o)) (cardRowAt c) j refl refl (λ x _. refl) (λ x _ _. refl)
-            (λ x _ f. putCardRow-other c k o x (λ e. not-both on (rw (← e) (fed-off j x off f)))) ∙
-            s .settles;
-        shows = putCardRow-other c k o j n ∙ s .shows;
-      }
+      put-settles l j k c o (fails (fed (viewOf l) j k) (λ f. not-both on (fed-off j k off f))) (λ e. not-both on (rw (← e) off)) (r j g off)
 
   -- m rows from k on are left, x is the next row of the path
   along :

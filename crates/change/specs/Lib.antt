@@ -1,3 +1,4 @@
+pub mod AnyCard
 pub mod Edit
 pub mod Ready
 pub mod Replace

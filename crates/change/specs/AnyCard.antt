@@ -1,0 +1,38 @@
+-- [01 §4] "A replacement reads the card rows off the path as it finds them. If the card doesn't belong to the list, the answer is
+-- still fixed: the conditions applied along the path to those numbers." l is the list with the new row in it, i that row, c the
+-- card as it is found, k the settings of every row. Rows are counted from 0. Definitions only.
+use mathlib.Core.Path.{_≡_}
+use mathlib.Core.List.{List}
+use Prim.Native.Nat.{ℕ, _+_, _<_}
+use Rattle.answers.specs.declared.Answer.{Answer}
+use Rattle.answers.specs.declared.Answer.the-variants.{Unsettled}
+use Rattle.answers.specs.declared.Reason.the-variants.{Pickup, Delay}
+use Rattle.layout.specs.Card.{cardRowAt}
+use Rattle.layout.specs.List.{rows, rowAt}
+use Rattle.layout.specs.View.{viewOf, Settings}
+use Rattle.path.specs.Path.{OnPath}
+use Rattle.calculate.specs.Meets.{AvailableOn, PickupMet, DelayMet, SomePickup, NoPickup, NoDelay, LeastRow}
+
+-- off the path of row i, k has the numbers found on the card
+abbrev pub AsFound : List ℕ → ℕ → List ℕ → Settings → Type 0
+AsFound l i c k = (j : ℕ) → j < rows l → (OnPath l i j → ⊥) → k j ≡ cardRowAt c j
+
+-- and in each row of the path k is available and meets every condition of section 3
+pub record PathMeets (l : List ℕ) (i : ℕ) (c : List ℕ) (k : Settings) : Type 0 where
+  pub off-path : AsFound l i c k
+  pub available : (j : ℕ) → OnPath l i j → AvailableOn (rowAt l j) (k j .pickup)
+  pub pickups : (j : ℕ) → OnPath l i j → PickupMet (viewOf l) k j (k j .pickup)
+  pub delays : (j : ℕ) → OnPath l i j → DelayMet (viewOf l) k j (k j .delay)
+
+-- row j of the path is next: the rows of the path below it are at their least settings
+pub record PathUpTo (l : List ℕ) (i : ℕ) (c : List ℕ) (k : Settings) (j : ℕ) : Type 0 where
+  pub on-path : OnPath l i j
+  pub off-path : AsFound l i c k
+  pub rows-below : (m : ℕ) → OnPath l i m → m < j → LeastRow (viewOf l) k m
+
+-- 6 PICKUP and 7 DELAY along the path: no pickup fits the row that is next; or some pickup does, and no delay
+pub data PathRefused (l : List ℕ) (i : ℕ) (c : List ℕ) : Answer → Type 0 where
+  PICKUP : (k : Settings) (j : ℕ) → PathUpTo l i c k j → NoPickup (viewOf l) k j → PathRefused l i c (Unsettled (j + 1) Pickup)
+  DELAY :
+      (k : Settings) (j : ℕ) → PathUpTo l i c k j → SomePickup (viewOf l) k j → NoDelay (viewOf l) k j →
+      PathRefused l i c (Unsettled (j + 1) Delay)
