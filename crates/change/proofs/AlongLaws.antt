@@ -21,7 +21,8 @@ use Rattle.layout.specs.Fields.{atFeeder}
 use Rattle.layout.specs.List.{rows, field}
 use Rattle.layout.specs.View.{viewOf}
 use Rattle.layout.proofs.CardLaws.{putCardRow-length, putCardRow-own, putCardRow-other}
-use Rattle.rows.specs.InRange.{AllBounded, Feeds}
+use Rattle.layout.specs.Range.{AllBounded}
+use Rattle.rows.specs.InRange.{Feeds}
 use Rattle.settle.specs.declared.Outcome.{Outcome}
 use Rattle.settle.specs.declared.Settled.{Settled}
 use Rattle.settle.specs.declared.Settled.the-variants.{Set, Unset}

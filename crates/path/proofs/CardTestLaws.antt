@@ -1,72 +1,39 @@
--- The test 9 CARD passes exactly what section 4 lets pass.
-use mathlib.Core.Path.{_≡_, refl, sym, _∙_}
+-- The test 9 CARD exactly: a card in range passes, and any other is refused at the first row that is out of range.
+use mathlib.Core.Path.{_≡_, refl, sym, _∙_, subst}
 use mathlib.Core.Bool.{Bool, true, false, not}
+use mathlib.Core.Logic.{_↔_}
 use mathlib.Core.List.{List}
-use Prim.Native.Nat.{ℕ, zero, suc, _+_, _≤_, _<_}
+use Prim.Native.Nat.{ℕ, _+_, _≤_, _<_}
 use native.Mathlib.Omega.{arith}
-use lib.Dec.{leb}
-use borrow.Author.Tests.{leb-true, le-leb, not-false}
+use borrow.Author.Tests.{not-false, not-true}
 use Rattle.fold.specs.declared.Found.{Found}
 use Rattle.fold.specs.declared.Found.the-variants.{At, Nothing}
 use Rattle.fold.specs.First.{first}
 use Rattle.fold.specs.Fold.{every}
-use Rattle.fold.proofs.BoolLaws.{and-left, and-right, and-both}
-use Rattle.fold.proofs.FirstLaws.{first-none, first-nothing}
+use Rattle.fold.proofs.BoolLaws.{fails, not-both}
+use Rattle.fold.proofs.FirstLaws.{first-at, first-is, first-none, first-nothing}
 use Rattle.fold.proofs.FoldLaws.{every-at, every-of, every-more, every-fails}
-use Rattle.answers.specs.declared.Answer.{Answer}
 use Rattle.answers.specs.declared.Answer.the-variants.{Card}
+use Rattle.answers.specs.declared.Tested.{Tested}
 use Rattle.answers.specs.declared.Tested.the-variants.{Passed, Refused}
 use Rattle.layout.specs.Card.{column, cardRowAt, columnBounds}
 use Rattle.layout.specs.Counts.{columnCount}
-use Rattle.layout.specs.Fields.{leastIn, greatestIn, inBounds}
+use Rattle.layout.specs.Fields.{inBounds}
 use Rattle.layout.specs.List.{rows}
-use Rattle.rowwise.proofs.EndLaws.{never-passed}
-use Rattle.path.specs.CardTest.{columnRight, cardRight, cardAnswer, cardTest}
-
--- what CARD asks of a card row
-pub record CardFits (c : List ℕ) (j : ℕ) : Type 0 where
-  pub pickup-from : 1 ≤ cardRowAt c j .pickup
-  pub pickup-to : cardRowAt c j .pickup ≤ 100000000
-  pub delay-to : cardRowAt c j .delay ≤ 100000
-  pub cutoff-to : cardRowAt c j .cutoff ≤ 100000000
-
--- a number within its bounds, by inequalities
-module _ (t : List ℕ) (k x : ℕ) where
-  bounds-from : inBounds t k x ≡ true → leastIn t k ≤ x
-  unfolding inBounds
-  bounds-from e = leb-true _ _ (and-left (leb (leastIn t k) x) _ e)
-
-  bounds-to : inBounds t k x ≡ true → x ≤ greatestIn t k
-  unfolding inBounds
-  bounds-to e = leb-true _ _ (and-right (leb (leastIn t k) x) _ e)
-
-  bounds-of : leastIn t k ≤ x → x ≤ greatestIn t k → inBounds t k x ≡ true
-  unfolding inBounds
-  bounds-of a b = and-both (le-leb _ _ a) (le-leb _ _ b)
+use Rattle.layout.specs.Range.{CardRowInRange}
+use Rattle.layout.proofs.RangeLaws.{in-bounds-exactly, columns-exactly}
+use Rattle.path.specs.CardTest.{CardInRange, CardGets, columnRight, cardRight, cardAnswer, cardTest}
 
 module _ (c : List ℕ) (j : ℕ) where
-  pub card-fits : cardRight c j ≡ true → CardFits c j
+  pub card-fits : cardRight c j ≡ true → CardRowInRange (cardRowAt c j)
   unfolding cardRight
   card-fits e =
-      record {
-        pickup-from = bounds-from columnBounds 0 _ (right 0 (omega arith));
-        pickup-to = bounds-to columnBounds 0 _ (right 0 (omega arith));
-        delay-to = bounds-to columnBounds 1 _ (right 1 (omega arith));
-        cutoff-to = bounds-to columnBounds 2 _ (right 2 (omega arith));
-      }
-    where
-      right : (k : ℕ) → k < columnCount → columnRight c j k ≡ true
-      right k h = every-at (columnRight c j) columnCount k e h
+      columns-exactly c j .0 (λ k h. in-bounds-exactly columnBounds k (column c j k) .0 (every-at (columnRight c j) columnCount k e h))
 
-  pub fits-card : CardFits c j → cardRight c j ≡ true
+  pub fits-card : CardRowInRange (cardRowAt c j) → cardRight c j ≡ true
   unfolding cardRight
-  fits-card f = every-of (columnRight c j) columnCount right
-    where
-      right : (k : ℕ) → k < columnCount → columnRight c j k ≡ true
-      right zero h = bounds-of columnBounds 0 (column c j 0) (f .pickup-from) (f .pickup-to)
-      right (suc zero) h = bounds-of columnBounds 1 (column c j 1) (omega arith) (f .delay-to)
-      right (suc (suc zero)) h = bounds-of columnBounds 2 (column c j 2) (omega arith) (f .cutoff-to)
-      right (suc (suc (suc k))) h = absurd (omega arith)
+  fits-card f =
+      every-of (columnRight c j) columnCount (λ k h. in-bounds-exactly columnBounds k (column c j k) .1 (columns-exactly c j .1 f k h))
 
   -- the loop over a row's columns: those below k are right
   pub record Righted (k : ℕ) : Type 0 where
@@ -102,13 +69,43 @@ module _ (l c : List ℕ) where
   unfolding cardTest cardAnswer
   card-passes e = rw e
 
-  pub card-passed : cardTest l c ≡ Passed → (j : ℕ) → j < rows l → CardFits c j
-  unfolding cardTest cardAnswer
-  card-passed e j h = card-fits c j (not-false _ (first-nothing (λ j. not (cardRight c j)) (rows l) 0 (none _ e) j (omega arith) (omega arith)))
-    where
-      none : (f : Found) → cardAnswer f ≡ Passed → f ≡ Nothing
-      none (At j) q = absurd (never-passed (sym q))
-      none Nothing q = refl
+  pub get-card : {t : Tested} → CardGets l c t → cardTest l c ≡ t
+  get-card (CardGets.passed f) =
+      sym (card-passes (first-none (λ j. not (cardRight c j)) (rows l) 0 (λ j a b. rw (fits-card c j (f j (omega arith))))))
+  get-card (CardGets.CARD j f) =
+      sym
+      (card-refuses j
+      (first-is (λ j. not (cardRight c j)) (rows l) 0 j (omega arith) (omega (arith, f .inside))
+      (rw (fails (cardRight c j) (λ e. f .out (card-fits c j e))))
+      (λ m a b. rw (fits-card c m (f .rows-before m b)))))
 
-  pub fits-pass : ((j : ℕ) → j < rows l → CardFits c j) → cardTest l c ≡ Passed
-  fits-pass h = sym (card-passes (first-none (λ j. not (cardRight c j)) (rows l) 0 (λ j a b. rw (fits-card c j (h j (omega arith))))))
+  -- 9 CARD is given where a card row is out of range, at the first, and no other way
+  pub card-gets : CardGets l c (cardTest l c)
+  card-gets = by-cases (first (λ j. not (cardRight c j)) 0 (rows l)) refl
+    where
+      given : {t : Tested} → CardGets l c t → CardGets l c (cardTest l c)
+      given g = subst (CardGets l c) (sym (get-card g)) g
+
+      by-cases : (f : Found) → first (λ j. not (cardRight c j)) 0 (rows l) ≡ f → CardGets l c (cardTest l c)
+      by-cases (At j) e =
+          let f = first-at (λ j. not (cardRight c j)) (rows l) 0 j e in
+          given
+          (CardGets.CARD j
+          (record {
+            inside = omega (arith, f .below);
+            rows-before = λ m b. card-fits c m (not-false _ (f .before m (omega arith) b));
+            out = λ r. not-both (fits-card c j r) (not-true _ (f .passes));
+          }))
+      by-cases Nothing e =
+          given
+          (CardGets.passed
+          (λ j h. card-fits c j (not-false _ (first-nothing (λ j. not (cardRight c j)) (rows l) 0 e j (omega arith) (omega arith)))))
+
+  pub card-exactly : (t : Tested) → (cardTest l c ≡ t) ↔ CardGets l c t
+  card-exactly t = (λ e. subst (CardGets l c) e card-gets, get-card)
+
+  pub card-passed : cardTest l c ≡ Passed → CardInRange l c
+  card-passed e = by-cases (subst (CardGets l c) e card-gets)
+    where
+      by-cases : CardGets l c Passed → CardInRange l c
+      by-cases (CardGets.passed f) = f
