@@ -9,7 +9,7 @@
 -- `whole` is the definition that the public entry's contract cites (specs/Whole.antt).
 use mathlib.Core.Path.{_≡_, refl, sym, ap, _∙_}
 use mathlib.Core.Bool.{true, false}
-use mathlib.Core.Logic.{_↔_, ⊎-elim}
+use mathlib.Core.Logic.{_↔_, _⊎_, inl, inr, ⊎-elim}
 use mathlib.Core.List.{List}
 use Prim.Native.Nat.{ℕ, _+_, _*_, _≤_, _<_}
 use native.Mathlib.Omega.{arith}
@@ -41,12 +41,12 @@ use Rattle.settle.specs.Settle.{leastPickup, fitting, cutoffOf, printed, shown,
 use Rattle.settle.proofs.OutcomeLaws.{outcome-set}
 use Rattle.settle.proofs.SameLaws.{fed-below}
 use Rattle.rowwise.specs.WorkOut.{Worked, finished, refused, onPassed}
-use Rattle.calculate.specs.Meets.{PickupsMeet, DelaysMeet, Meets}
-use Rattle.calculate.specs.Refused.{RowSettled, RefusedAt}
+use Rattle.calculate.specs.Meets.{LeastRow, PickupsMeet, DelaysMeet, Meets}
+use Rattle.calculate.specs.Refused.{RowSettled, UpTo, RefusedAt, PICKUP, DELAY}
 use Rattle.calculate.specs.Whole.{Result, ending, calculation, whole}
 use Rattle.calculate.proofs.FrameLaws.{calculation-keeps}
 use Rattle.calculate.proofs.LeastLaws.{pickups-under, pickup-fits, delays-under, delay-fits}
-use Rattle.calculate.proofs.MeetsLaws.{settled-meets}
+use Rattle.calculate.proofs.MeetsLaws.{settled-meets, settled-least}
 use Rattle.calculate.proofs.RefusedLaws.{calculation-refused}
 use Rattle.calculate.proofs.SettledLaws.{calculation-settled}
 
@@ -94,7 +94,8 @@ module _ (l c : List ℕ) (size : RightSize l) (room : HasRoom l (length c)) (a 
 
   -- a refusal by row is no acceptance
   never-done : {x : Answer} → RefusedAt v x → x ≡ Done → ⊥
-  never-done z e = ⊎-elim (λ w. unsettled-not-done (sym (w .0) ∙ e)) (λ w. unsettled-not-done (sym (w .0) ∙ e)) (z .why)
+  never-done (PICKUP k i u n) e = unsettled-not-done e
+  never-done (DELAY k i u p n) e = unsettled-not-done e
 
   every-row-settled : whole l c .answer ≡ Done → (j : ℕ) → j < rows l → RowSettled v card j
   unfolding v card
@@ -103,6 +104,10 @@ module _ (l c : List ℕ) (size : RightSize l) (room : HasRoom l (length c)) (a 
       by-cases : Ended → (j : ℕ) → j < rows l → RowSettled v card j
       by-cases (accepted d f) = calculation-settled l b c (whole l c .card) room f
       by-cases (refused-by x d z) = absurd (never-done z (sym d ∙ e))
+
+  every-row-least : whole l c .answer ≡ Done → (j : ℕ) → j < rows l → LeastRow v card j
+  unfolding v card
+  every-row-least e j h = settled-least v bounded card j h (every-row-settled e j h)
 
   pub accepted-meets : whole l c .answer ≡ Done → Meets (viewOf l) (cardRowAt (whole l c .card))
   unfolding v card
@@ -116,15 +121,12 @@ module _ (l c : List ℕ) (size : RightSize l) (room : HasRoom l (length c)) (a 
       where
         by-cases : Ended → ⊥
         by-cases (accepted d f) = unsettled-not-done (sym e ∙ d)
-        by-cases (refused-by x d z) =
-            ⊎-elim
-            (λ w. pickup-fits v bounded (fed-below l b) (cardRowAt (z .card)) k m (z .row) (z .within) (z .rows-below) (w .1))
-            (λ w. pickup-not-delay (sym e ∙ d ∙ w .0))
-            (z .why)
+        by-cases (refused-by x d (PICKUP s i u n)) = pickup-fits v (fed-below l b) s k m i (u .is-row) (u .rows-below) n
+        by-cases (refused-by x d (DELAY s i u p n)) = pickup-not-delay (sym e ∙ d)
 
     pub no-lower-pickup : whole l c .answer ≡ Done → (i : ℕ) → i < rows l → cardRowAt (whole l c .card) i .pickup ≤ k i .pickup
     unfolding v card
-    no-lower-pickup e = pickups-under v bounded (fed-below l b) card k m (rows l) (omega arith) (every-row-settled e)
+    no-lower-pickup e = pickups-under v (fed-below l b) card k m (rows l) (omega arith) (every-row-least e)
 
   -- delays that meet D1 and D2: no row is refused with DELAY, and none of the card's is longer
   module _ (k : Settings) (m : DelaysMeet (viewOf l) k) where
@@ -134,15 +136,12 @@ module _ (l c : List ℕ) (size : RightSize l) (room : HasRoom l (length c)) (a 
       where
         by-cases : Ended → ⊥
         by-cases (accepted d f) = unsettled-not-done (sym e ∙ d)
-        by-cases (refused-by x d z) =
-            ⊎-elim
-            (λ w. pickup-not-delay (sym (w .0) ∙ sym d ∙ e))
-            (λ w. delay-fits v bounded (fed-below l b) (cardRowAt (z .card)) k m (z .row) (z .within) (z .rows-below) (w .2))
-            (z .why)
+        by-cases (refused-by x d (PICKUP s i u n)) = pickup-not-delay (sym d ∙ e)
+        by-cases (refused-by x d (DELAY s i u p n)) = delay-fits v (fed-below l b) s k m i (u .is-row) (u .rows-below) n
 
     pub no-shorter-delay : whole l c .answer ≡ Done → (i : ℕ) → i < rows l → cardRowAt (whole l c .card) i .delay ≤ k i .delay
     unfolding v card
-    no-shorter-delay e = delays-under v bounded (fed-below l b) card k m (rows l) (omega arith) (every-row-settled e)
+    no-shorter-delay e = delays-under v (fed-below l b) card k m (rows l) (omega arith) (every-row-least e)
 
   -- settings that meet every condition
   module _ (k : Settings) (m : Meets (viewOf l) k) where
@@ -151,12 +150,8 @@ module _ (l c : List ℕ) (size : RightSize l) (room : HasRoom l (length c)) (a 
       where
         by-cases : Ended → whole l c .answer ≡ Done
         by-cases (accepted d f) = d
-        by-cases (refused-by x d z) =
-            absurd
-            (⊎-elim
-            (λ w. pickups-exist k (m .pickups) (z .row + 1) (d ∙ w .0))
-            (λ w. delays-exist k (m .delays) (z .row + 1) (d ∙ w .0))
-            (z .why))
+        by-cases (refused-by x d (PICKUP s i u n)) = absurd (pickups-exist k (m .pickups) (i + 1) d)
+        by-cases (refused-by x d (DELAY s i u p n)) = absurd (delays-exist k (m .delays) (i + 1) d)
 
     pub no-lower-no-shorter :
         (i : ℕ) → i < rows l → (cardRowAt (whole l c .card) i .pickup ≤ k i .pickup) × (cardRowAt (whole l c .card) i .delay ≤ k i .delay)
@@ -172,13 +167,16 @@ module _ (l c : List ℕ) (size : RightSize l) (room : HasRoom l (length c)) (a 
       let s = every-row-settled e i h in
       ap (λ (k : CardRow). k .cutoff) (s .shows) ∙ ap printed (outcome-set (rowAt l i) _ _ (s .outcome) (s .settles) .cutoff-is)
 
-  pub refused-names : (whole l c .answer ≡ Done → ⊥) → RefusedAt (viewOf l) (whole l c .answer)
+  pub done-or-refused : (whole l c .answer ≡ Done) ⊎ RefusedAt (viewOf l) (whole l c .answer)
   unfolding v
-  refused-names n = by-cases ended
+  done-or-refused = by-cases ended
     where
-      by-cases : Ended → RefusedAt (viewOf l) (whole l c .answer)
-      by-cases (accepted d f) = absurd (n d)
-      by-cases (refused-by x d z) = rw d z
+      by-cases : Ended → (whole l c .answer ≡ Done) ⊎ RefusedAt (viewOf l) (whole l c .answer)
+      by-cases (accepted d f) = inl d
+      by-cases (refused-by x d z) = inr (rw d z)
+
+  pub refused-names : (whole l c .answer ≡ Done → ⊥) → RefusedAt (viewOf l) (whole l c .answer)
+  refused-names n = ⊎-elim (λ d. absurd (n d)) (λ z. z) done-or-refused
 
   pub past-the-card-kept : whole l c .answer ≡ Done → drop (rows l * columnCount) (whole l c .card) ≡ drop (rows l * columnCount) c
   past-the-card-kept e = by-cases ended

@@ -10,13 +10,11 @@ use native.Mathlib.Omega.{arith}
 use borrow.Author.Tests.{eq-eqb}
 use Rattle.fold.proofs.BoolLaws.{passes-or-fails, not-both}
 use Rattle.fold.proofs.FoldLaws.{below-cases}
-use Rattle.layout.specs.Range.{AllBounded}
 use Rattle.layout.specs.View.{View, Settings}
 use Rattle.rowwise.specs.Working.{everyRow}
 use Rattle.settle.specs.Conditions.{fed}
 use Rattle.calculate.specs.Meets.{AvailableOn, PickupMet, DelayMet, NoPickup, NoDelay, LeastRow, PickupsMeet, DelaysMeet}
-use Rattle.calculate.specs.Refused.{RowSettled, NoPickupFits, NoDelayFits}
-use Rattle.calculate.proofs.MeetsLaws.{meets-pickup, meets-delay, pickup-down, delay-down, settled-least}
+use Rattle.calculate.proofs.MeetsLaws.{pickup-down, delay-down}
 
 -- fed rows stand below their feeder; the rows of `on` below n are at their least settings in k, and meet the conditions in k′
 module _ (v : View) (below : (i j : ℕ) → j < v .count → fed v i j ≡ true → j < i) (on : ℕ → Bool) (n : ℕ) (k k′ : Settings) where
@@ -66,28 +64,24 @@ module _ (v : View) (below : (i j : ℕ) → j < v .count → fed v i j ≡ true
     pub delay-fits-on : (i : ℕ) → i < n → on i ≡ true → ((j : ℕ) → j < i → on j ≡ true → LeastRow v k j) → NoDelay v k i → ⊥
     delay-fits-on i h o all none = none (k′ i .delay) (delay-met-too i h o (delays-under-on i (omega arith) all))
 
--- all rows are settled
-module _ (v : View) (a : AllBounded v) (below : (i j : ℕ) → j < v .count → fed v i j ≡ true → j < i) (k k′ : Settings) where
-  least : (n : ℕ) → n ≤ v .count → ((j : ℕ) → j < n → RowSettled v k j) → (j : ℕ) → j < n → everyRow j ≡ true → LeastRow v k j
-  least n h all j b _ = settled-least v a k j (omega arith) (all j b)
-
+-- all rows
+module _ (v : View) (below : (i j : ℕ) → j < v .count → fed v i j ≡ true → j < i) (k k′ : Settings) where
   module _ (m : PickupsMeet v k′) where
-    pub pickups-under : (n : ℕ) → n ≤ v .count → ((j : ℕ) → j < n → RowSettled v k j) → (j : ℕ) → j < n → k j .pickup ≤ k′ j .pickup
+    pub pickups-under : (n : ℕ) → n ≤ v .count → ((j : ℕ) → j < n → LeastRow v k j) → (j : ℕ) → j < n → k j .pickup ≤ k′ j .pickup
     pickups-under n h all =
         pickups-under-on v below everyRow (v .count) k k′ (λ j _ o. absurd (not-both refl o)) (λ i b _. m .available i b) (λ i b _. m .met i b) n h
-        (least n h all)
+        (λ j b _. all j b)
 
-    pub pickup-fits : (i : ℕ) → i < v .count → ((j : ℕ) → j < i → RowSettled v k j) → NoPickupFits v k i → ⊥
-    pickup-fits i h all none =
+    pub pickup-fits : (i : ℕ) → i < v .count → ((j : ℕ) → j < i → LeastRow v k j) → NoPickup v k i → ⊥
+    pickup-fits i h all =
         pickup-fits-on v below everyRow (v .count) k k′ (λ j _ o. absurd (not-both refl o)) (λ i b _. m .available i b) (λ i b _. m .met i b) i h refl
-        (least i (omega arith) all) (λ I g p. not-both (meets-pickup v k i I p) (none I g))
+        (λ j b _. all j b)
 
   module _ (m : DelaysMeet v k′) where
-    pub delays-under : (n : ℕ) → n ≤ v .count → ((j : ℕ) → j < n → RowSettled v k j) → (j : ℕ) → j < n → k j .delay ≤ k′ j .delay
+    pub delays-under : (n : ℕ) → n ≤ v .count → ((j : ℕ) → j < n → LeastRow v k j) → (j : ℕ) → j < n → k j .delay ≤ k′ j .delay
     delays-under n h all =
-        delays-under-on v below everyRow (v .count) k k′ (λ j _ o. absurd (not-both refl o)) (λ i b _. m i b) n h (least n h all)
+        delays-under-on v below everyRow (v .count) k k′ (λ j _ o. absurd (not-both refl o)) (λ i b _. m i b) n h (λ j b _. all j b)
 
-    pub delay-fits : (i : ℕ) → i < v .count → ((j : ℕ) → j < i → RowSettled v k j) → NoDelayFits v k i → ⊥
-    delay-fits i h all none =
-        delay-fits-on v below everyRow (v .count) k k′ (λ j _ o. absurd (not-both refl o)) (λ i b _. m i b) i h refl (least i (omega arith) all)
-        (λ t d. not-both (meets-delay v k i t d) (none t))
+    pub delay-fits : (i : ℕ) → i < v .count → ((j : ℕ) → j < i → LeastRow v k j) → NoDelay v k i → ⊥
+    delay-fits i h all =
+        delay-fits-on v below everyRow (v .count) k k′ (λ j _ o. absurd (not-both refl o)) (λ i b _. m i b) i h refl (λ j b _. all j b)

@@ -1,7 +1,5 @@
 -- A calculation that ends in a refusal: which row it names, and why.
-use mathlib.Core.Path.{_≡_, refl, sym}
-use mathlib.Core.Bool.{false}
-use mathlib.Core.Logic.{_⊎_, inl, inr}
+use mathlib.Core.Path.{_≡_, refl, sym, subst}
 use mathlib.Core.List.{List}
 use Prim.Native.Nat.{ℕ, zero, suc, _+_, _*_, _≤_, _<_}
 use native.Mathlib.Nat.{zero-add}
@@ -9,7 +7,7 @@ use native.Mathlib.Omega.{arith}
 use lib.ListN.{length}
 use Rattle.fold.specs.declared.Found.{Found}
 use Rattle.fold.specs.declared.Found.the-variants.{At, Nothing}
-use Rattle.fold.proofs.BoolLaws.{fails, not-both}
+use Rattle.fold.proofs.BoolLaws.{not-both}
 use Rattle.grid.proofs.GridLaws.{leastOn-nothing, leastOn-least}
 use Rattle.answers.specs.declared.Answer.{Answer}
 use Rattle.answers.specs.declared.Answer.the-variants.{Unsettled}
@@ -29,35 +27,35 @@ use Rattle.settle.specs.Settle.{meetsPickup, meetsDelay, leastPickup, leastDela
 use Rattle.settle.proofs.OutcomeLaws.{outcome-no-pickup, outcome-no-delay}
 use Rattle.rowwise.specs.WorkOut.{refused, onSettled, workOut, upFrom}
 use Rattle.rowwise.proofs.EndLaws.{never-finished, same-refusal}
-use Rattle.calculate.specs.Refused.{PickupFits, NoPickupFits, NoDelayFits, RefusedAt}
+use Rattle.calculate.specs.Meets.{SomePickup, NoPickup, NoDelay}
+use Rattle.calculate.specs.Refused.{UpTo, RefusedAt, PICKUP, DELAY}
 use Rattle.calculate.specs.Whole.{calculation}
-use Rattle.calculate.proofs.MeetsLaws.{delay-met, delay-available}
+use Rattle.calculate.proofs.MeetsLaws.{pickup-met, meets-pickup, meets-delay, delay-available, settled-least}
 use Rattle.calculate.proofs.SettledLaws.{Settles, next-settled}
 
 -- why a row is not settled
 module _ (v : View) (a : AllBounded v) (k : Settings) (i : ℕ) (h : i < v .count) where
-  pub no-pickup-fits : settled v k i ≡ Unset Pickup → NoPickupFits v k i
+  pub no-pickup-fits : settled v k i ≡ Unset Pickup → NoPickup v k i
   unfolding settled
-  no-pickup-fits e I g =
-      leastOn-nothing _ _ _ (a i h .step-from) (meetsPickup v k i)
-      (outcome-no-pickup (v .row i) _ (leastDelay (v .row i) (meetsDelay v k i)) e) I g
+  no-pickup-fits e I g m =
+      not-both (meets-pickup v k i I m)
+      (leastOn-nothing _ _ _ (a i h .step-from) (meetsPickup v k i)
+      (outcome-no-pickup (v .row i) _ (leastDelay (v .row i) (meetsDelay v k i)) e) I g)
 
-  pub a-pickup-fits : settled v k i ≡ Unset Delay → PickupFits v k i
+  pub a-pickup-fits : settled v k i ≡ Unset Delay → SomePickup v k i
   unfolding settled
   a-pickup-fits e =
       let f = outcome-no-delay (v .row i) (leastPickup (v .row i) (meetsPickup v k i)) (leastDelay (v .row i) (meetsDelay v k i)) e .0 in
       let m = leastOn-least _ _ _ (a i h .step-from) (meetsPickup v k i) (f .0) (f .1) in
-      record { pickup = f .0; available = m .available; meets = m .passes }
+      (f .0, m .available, pickup-met v k i (f .0) (m .passes))
 
-  pub no-delay-fits : settled v k i ≡ Unset Delay → NoDelayFits v k i
+  pub no-delay-fits : settled v k i ≡ Unset Delay → NoDelay v k i
   unfolding settled
-  no-delay-fits e t =
-      fails (meetsDelay v k i t)
-      (λ m.
-      not-both m
+  no-delay-fits e t d =
+      not-both (meets-delay v k i t d)
       (leastOn-nothing _ _ 1 (omega arith) (meetsDelay v k i)
       (outcome-no-delay (v .row i) (leastPickup (v .row i) (meetsPickup v k i)) _ e .1) t
-      (delay-available (v .row i) t (delay-met v k i t m .D1))))
+      (delay-available (v .row i) t (d .D1)))
 
 module _ (l : List ℕ) (a : AllBounded (viewOf l)) (b : Feeds l) where
   refused-from :
@@ -74,24 +72,21 @@ module _ (l : List ℕ) (a : AllBounded (viewOf l)) (b : Feeds l) where
       h : i < rows l
       h = omega arith
 
-      named : (why : Reason) → settled (viewOf l) (cardRowAt c) i ≡ Unset why → x ≡ Unsettled (i + 1) why → RefusedAt (viewOf l) x
-      named Pickup s e =
-          record { row = i; within = h; card = c; rows-below = all; why = inl (e, no-pickup-fits (viewOf l) a (cardRowAt c) i h s) }
-      named Delay s e =
-          record {
-            row = i;
-            within = h;
-            card = c;
-            rows-below = all;
-            why = inr (e, a-pickup-fits (viewOf l) a (cardRowAt c) i h s, no-delay-fits (viewOf l) a (cardRowAt c) i h s);
-          }
+      up-to : UpTo (viewOf l) (cardRowAt c) i
+      up-to =
+          record { is-row = h; rows-below = λ j g. settled-least (viewOf l) a (cardRowAt c) j (omega arith) (all j g) }
+
+      named : (why : Reason) → settled (viewOf l) (cardRowAt c) i ≡ Unset why → RefusedAt (viewOf l) (Unsettled (i + 1) why)
+      named Pickup s = PICKUP (cardRowAt c) i up-to (no-pickup-fits (viewOf l) a (cardRowAt c) i h s)
+      named Delay s =
+          DELAY (cardRowAt c) i up-to (a-pickup-fits (viewOf l) a (cardRowAt c) i h s) (no-delay-fits (viewOf l) a (cardRowAt c) i h s)
 
       by-cases :
           (s : Settled) → settled (viewOf l) (cardRowAt c) i ≡ s → onSettled i s (λ k. workOut l (upFrom (suc i) m) (putCardRow c i k)) ≡ refused x →
           ((o : Outcome) → settled (viewOf l) (cardRowAt c) i ≡ Set o → workOut l (upFrom (suc i) m) (putCardRow c i (shown o)) ≡ refused x →
           RefusedAt (viewOf l) x) → RefusedAt (viewOf l) x
       by-cases (Set o) s e ih = ih o s e
-      by-cases (Unset why) s e ih = named why s (sym (same-refusal e))
+      by-cases (Unset why) s e ih = subst (RefusedAt (viewOf l)) (same-refusal e) (named why s)
 
   pub calculation-refused : (c : List ℕ) (x : Answer) → rows l * columnCount ≤ length c → calculation l c ≡ refused x → RefusedAt (viewOf l) x
   unfolding calculation

@@ -1,3 +1,4 @@
+pub mod Gets
 pub mod Meets
 pub mod Ready
 pub mod Refused

@@ -30,7 +30,7 @@ use Rattle.settle.specs.Conditions.{fed}
 use Rattle.settle.specs.Settle.{shown, settled}
 use Rattle.settle.proofs.SameLaws.{fed-below}
 use Rattle.rowwise.specs.WorkOut.{Worked, finished, refused, onSettled, workOut}
-use Rattle.calculate.proofs.MeetsLaws.{meets-pickup, meets-delay, pickup-met, settled-least}
+use Rattle.calculate.proofs.MeetsLaws.{settled-least}
 use Rattle.calculate.proofs.RefusedLaws.{no-pickup-fits, a-pickup-fits, no-delay-fits}
 use Rattle.calculate.proofs.SettledLaws.{Settles}
 use Rattle.path.specs.Path.{OnPath, pathOf, onPath}
@@ -78,11 +78,10 @@ module _ (l : List ℕ) (a : AllBounded (viewOf l)) (b : Feeds l) (i : ℕ) (h :
         by-reason : (why : Reason) → settled (viewOf l) (cardRowAt c) x ≡ Unset why → PathRefused l i c₀ (Unsettled (x + 1) why)
         by-reason Pickup e =
             PICKUP (cardRowAt c) x up-to
-            (λ I g m. not-both (meets-pickup (viewOf l) (cardRowAt c) x I m) (no-pickup-fits (viewOf l) a (cardRowAt c) x (r .within) e I g))
+            (no-pickup-fits (viewOf l) a (cardRowAt c) x (r .within) e)
         by-reason Delay e =
-            let p = a-pickup-fits (viewOf l) a (cardRowAt c) x (r .within) e in
-            DELAY (cardRowAt c) x up-to (p .pickup, p .available, pickup-met (viewOf l) (cardRowAt c) x (p .pickup) (p .meets))
-            (λ t d. not-both (meets-delay (viewOf l) (cardRowAt c) x t d) (no-delay-fits (viewOf l) a (cardRowAt c) x (r .within) e t))
+            DELAY (cardRowAt c) x up-to (a-pickup-fits (viewOf l) a (cardRowAt c) x (r .within) e)
+            (no-delay-fits (viewOf l) a (cardRowAt c) x (r .within) e)
 
     -- row x is settled, and put in
     module _ (o : Outcome) (e : settled (viewOf l) (cardRowAt c) x ≡ Set o) where
