@@ -1,9 +1,9 @@
 -- The tables of bounds say what section 2 and CARD say, by the names of the fields and columns: another table, or another order of
 -- the fields, would not.
-use mathlib.Core.Path.{_≡_}
+use mathlib.Core.Path.{_≡_, refl}
 use mathlib.Core.Bool.{true}
 use mathlib.Core.Logic.{_↔_}
-use mathlib.Core.List.{List}
+use mathlib.Core.List.{List, [], _∷_}
 use Prim.Native.Nat.{ℕ, zero, suc, _≤_, _<_}
 use native.Mathlib.Omega.{arith}
 use lib.Dec.{leb}
@@ -102,3 +102,36 @@ columns-exactly c i = (
     by-column b (suc zero) h = (omega arith, b .delay-to)
     by-column b (suc (suc zero)) h = (omega arith, b .cutoff-to)
     by-column b (suc (suc (suc k))) h = absurd (omega arith)
+
+-- ---- the order of the fields and of the columns: in the second row of a list and of a card whose numbers are 1, 2, 3, ..
+
+pub fields-in-order :
+    rowAt
+    (
+    1 ∷ 2 ∷ 3 ∷ 4 ∷ 5 ∷ 6 ∷ 7 ∷ 8 ∷ 9 ∷ 10 ∷ 11 ∷ 12 ∷ 13 ∷ 14 ∷ 15 ∷ 16 ∷ 17 ∷ 18 ∷
+    19 ∷ 20 ∷ 21 ∷ 22 ∷ 23 ∷ 24 ∷ 25 ∷ 26 ∷ 27 ∷ 28 ∷ 29 ∷ 30 ∷ 31 ∷ 32 ∷ 33 ∷ 34 ∷ 35 ∷ 36 ∷ []
+    )
+    1 ≡
+    record {
+      feeder = 20;
+      kind = 21;
+      volts = 22;
+      work = 23;
+      selfstart = 24;
+      returnfactor = 25;
+      far = 26;
+      clear = 27;
+      near = 28;
+      factor = 29;
+      low = 30;
+      high = 31;
+      step = 32;
+      device = 33;
+      floor = 34;
+      ceiling = 35;
+      backed = 36;
+    }
+fields-in-order = refl
+
+pub columns-in-order : cardRowAt (1 ∷ 2 ∷ 3 ∷ 4 ∷ 5 ∷ 6 ∷ []) 1 ≡ record { pickup = 4; delay = 5; cutoff = 6 }
+columns-in-order = refl

@@ -59,41 +59,41 @@ pub const AT_BACKED: usize = 17;
 // The least and the greatest number allowed, field by field [01 §2].
 const BOUNDS: [u64; 2 * FIELDS] = [
     1,
-    256,
+    256, // row
     0,
-    256,
+    256, // feeds_from
     1,
-    3,
+    3, // kind
     100,
-    500000,
+    500000, // volts
     1,
-    100000000,
+    100000000, // work
     1000,
-    10000,
+    10000, // selfstart
     800,
+    1000, // return
+    1,
+    100000000, // far
+    1,
+    100000000, // clear
+    1,
+    100000000, // near
     1000,
+    2000, // factor
     1,
-    100000000,
+    100000000, // low
     1,
-    100000000,
+    100000000, // high
     1,
-    100000000,
-    1000,
-    2000,
+    100000000, // step
     1,
-    100000000,
-    1,
-    100000000,
-    1,
-    100000000,
-    1,
-    3,
+    3, // device
     0,
-    100000,
+    100000, // floor
     0,
-    100000,
+    100000, // ceiling
     0,
-    1,
+    1, // backed
 ];
 
 // The same of a lent card, column by column [01 §4, 9 CARD].

@@ -162,12 +162,11 @@ module _ (l : List ℕ) (few : rows l ≤ rowsMost) where
   get-rows (RowsGet.passed a b) = in-range-passes l few a b
   get-rows (RowsGet.FIELD i k f) =
       let q = out-fault i k f in
-      rw (
-        first-is (rowAtFault l) (rows l) 0 i (omega arith) (omega (arith, f .inside))
-            (rw (q, ne-eqb (k + 1) 0 (λ z. omega arith)))
-            (λ j a b. rw (row-no-fault l j (omega (arith, f .inside)) (f .rows-before j b))),
-        q,
-      )
+      rw
+      (first-is (rowAtFault l) (rows l) 0 i (omega arith) (omega (arith, f .inside))
+      (rw (q, ne-eqb (k + 1) 0 (λ z. omega arith)))
+      (λ j a b. rw (row-no-fault l j (omega (arith, f .inside)) (f .rows-before j b))))
+      (ap (λ (x : ℕ). Refused (Field (i + 1) x)) q)
   get-rows (RowsGet.TREE i a f) =
       rw (
         in-range-none l few a,

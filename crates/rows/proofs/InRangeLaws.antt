@@ -1,5 +1,5 @@
 -- The tests of a field, a row and its feeding pass exactly what is in range and feeds as section 2 says; what the rows of such a list are.
-use mathlib.Core.Path.{_≡_, refl, sym, _∙_}
+use mathlib.Core.Path.{_≡_, refl, ap}
 use mathlib.Core.Bool.{Bool, true, false, not, _&&_, _||_}
 use mathlib.Core.Logic.{_↔_, ⊎-elim}
 use mathlib.Core.List.{List}
@@ -116,7 +116,8 @@ module _ (l : List ℕ) (i : ℕ) (h : i < rows l) where
       (λ (z : eqb (i + 1) (rows l) ≡ true). rw (z, eq-eqb _ _ (f .last-has-0 (eqb-true (i + 1) (rows l) z))))
       (λ (z : eqb (i + 1) (rows l) ≡ false).
       let n : i + 1 < rows l = let m = eqb-false (i + 1) (rows l) z in omega arith in
-      rw (z, lt-ltb _ _ (f .by-a-greater n), le-leb _ _ (f .by-a-row n), ne-eqb _ _ (f .by-no-motor n)))
+      rw z
+      (and-both (lt-ltb _ _ (f .by-a-greater n)) (and-both (le-leb _ _ (f .by-a-row n)) (ap not (ne-eqb _ _ (f .by-no-motor n))))))
       (passes-or-fails (eqb (i + 1) (rows l)))
 
 -- ---- the two tests over all rows
