@@ -20,7 +20,7 @@ use Rattle.layout.specs.Card.{cardRowAt}
 use Rattle.layout.specs.Counts.{columnCount}
 use Rattle.layout.specs.List.{rows, rowAt}
 use Rattle.layout.specs.View.{viewOf}
-use Rattle.layout.specs.Range.{Bounded, AllBounded}
+use Rattle.layout.specs.Range.{Bounded, AllBounded, CardRowInRange}
 use Rattle.rows.specs.InRange.{InRange}
 use Rattle.rows.specs.Tests.{sizeTest, rowsTest}
 use Rattle.rows.proofs.InRangeLaws.{passed-feeds}
@@ -35,7 +35,6 @@ use Rattle.calculate.proofs.FrameLaws.{calculation-keeps}
 use Rattle.calculate.proofs.MeetsLaws.{pickup-least, delay-least}
 use Rattle.calculate.proofs.SettledLaws.{Settles, calculation-settled}
 use Rattle.change.proofs.RefusalLaws.{Later, refuses-done, size-refuses, rows-later, work-later, passed-refused, passed-finished}
-use Rattle.path.proofs.CardTestLaws.{CardFits}
 
 -- the whole calculation, its size being right
 pub whole-as : (l c : List ℕ) → sizeTest (length l) (length c) ≡ Passed → whole l c ≡ ending c (onPassed (rowsTest l) (calculation l c))
@@ -83,7 +82,7 @@ module _ (l : List ℕ) (a : InRange l) (c : List ℕ) (j : ℕ) (h : j < rows l
       by-cases (At C) e = by-sight (seesNear r C) C (le-trans (leastOn-least _ _ _ (b .step-from) (staysClear r) C e .available .within) (b .high-to))
       by-cases Nothing e = omega arith
 
-  pub settled-fits : CardFits c j
+  pub settled-fits : CardRowInRange (cardRowAt c j)
   unfolding settled shown
   settled-fits =
       let all : AllBounded (viewOf l) = λ j h. a j h .bounded in

@@ -7,21 +7,12 @@ use lib.Dec.{leb, eqb}
 use lib.ListN.{length, getD}
 use borrow.Author.Tests.{eqb-true, leb-true, le-leb, eq-eqb}
 use Rattle.layout.specs.Counts.{fieldCount}
-use Rattle.fold.specs.First.{first}
 use Rattle.fold.proofs.BoolLaws.{and-left, and-right, and-both, fails, zero-not-one}
 use Rattle.answers.specs.declared.Answer.the-variants.{Edit}
 use Rattle.answers.specs.declared.Tested.the-variants.{Passed, Refused}
 use Rattle.layout.specs.Fields.{atFeeder}
 use Rattle.layout.specs.List.{rows, field}
-use Rattle.change.specs.Edit.{editRight, editTest}
-
--- what EDIT asks of a place and a new row
-pub record EditFits (l : List ℕ) (place : ℕ) (row : List ℕ) : Type 0 where
-  pub from : 1 ≤ place
-  pub to : place ≤ rows l
-  pub row-length : length row ≡ fieldCount
-  pub own-number : getD row 0 0 ≡ place
-  pub same-feeder : getD row atFeeder 0 ≡ field l (place - 1) atFeeder
+use Rattle.change.specs.Edit.{EditFits, editRight, editTest}
 
 module _ (l : List ℕ) (place : ℕ) (row : List ℕ) where
   pub edit-fits : editRight l place row ≡ true → EditFits l place row

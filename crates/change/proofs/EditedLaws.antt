@@ -15,10 +15,8 @@ use Rattle.layout.specs.Fields.{atFeeder}
 use Rattle.layout.specs.List.{rows, field, rowAt}
 use Rattle.layout.proofs.RowLaws.{same-row}
 use Rattle.path.specs.Path.{pathFrom, pathOf, onPath, has}
-use Rattle.change.specs.Edit.{PutReady}
-use Rattle.change.specs.Edit.{putList}
+use Rattle.change.specs.Edit.{putList, EditFits, PutReady}
 use Rattle.change.proofs.PutLaws.{putList-length, putList-before, putList-within, putList-after}
-use Rattle.change.proofs.EditLaws.{EditFits}
 
 -- two lists with the same feeding rows have the same paths
 paths-same :

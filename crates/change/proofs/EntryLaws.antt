@@ -15,7 +15,7 @@ use Rattle.rows.proofs.TestLaws.{size-passed}
 use Rattle.rowwise.specs.WorkOut.{Worked, finished, refused, workOut, onPassed}
 use Rattle.rowwise.proofs.EndLaws.{never-passed}
 use Rattle.path.specs.Path.{pathOf}
-use Rattle.change.specs.Edit.{PutReady}
+use Rattle.change.specs.Edit.{PutReady, EditFits}
 use Rattle.change.specs.Ready.{ExchangeReady, exchanged, Exchanged, Gave}
 use Rattle.path.specs.Ready.{PathReady, ReworkReady, testedOf, cardOf, Reworked}
 use Rattle.change.specs.Edit.{putList, editTest}
@@ -23,7 +23,7 @@ use Rattle.change.specs.Replace.{reworked, outcome, Replaced, replaced}
 use Rattle.path.specs.CardTest.{cardTest}
 use Rattle.path.proofs.EndLaws.{reworked-refused}
 use Rattle.change.proofs.PutLaws.{put-back}
-use Rattle.change.proofs.EditLaws.{EditFits, edit-passed}
+use Rattle.change.proofs.EditLaws.{edit-passed}
 
 -- 4 and 5, 9, then the path
 module _ (l : List ℕ) (i : ℕ) (c : List ℕ) where

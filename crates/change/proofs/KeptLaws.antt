@@ -26,12 +26,12 @@ use Rattle.settle.specs.Settle.{shown, settled}
 use Rattle.rowwise.specs.WorkOut.{Worked, finished, refused, onSettled, workOut, onPassed}
 use Rattle.rowwise.proofs.EndLaws.{never-finished}
 use Rattle.path.specs.Path.{pathOf, has, onPath}
-use Rattle.change.specs.Edit.{putList, editTest}
+use Rattle.change.specs.Edit.{putList, EditFits, editTest}
 use Rattle.change.specs.Replace.{reworked, outcome, replaced}
 use Rattle.change.proofs.EditedLaws.{edited-rows, edited-is-row, edited-path}
 use Rattle.path.proofs.PathLaws.{on-within}
 use Rattle.change.proofs.RefusalLaws.{Refuses, refuses-done, size-refuses, edit-refuses, reworked-later, passed-refused, passed-finished}
-use Rattle.change.proofs.EditLaws.{EditFits, edit-passed}
+use Rattle.change.proofs.EditLaws.{edit-passed}
 
 module _ (l : List ℕ) where
   pub record Keeps (is c c′ : List ℕ) : Type 0 where

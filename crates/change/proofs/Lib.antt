@@ -1,10 +1,12 @@
 pub mod AcceptLaws
 pub mod AlongLaws
+pub mod AnyCard
 pub mod Demand3
 pub mod EditLaws
 pub mod EditedLaws
 pub mod EntryLaws
 pub mod KeptLaws
+pub mod PathLeastLaws
 pub mod PutLaws
 pub mod RefusalLaws
 pub mod ReworkLaws

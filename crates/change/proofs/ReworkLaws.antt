@@ -21,15 +21,14 @@ use Rattle.settle.proofs.SameLaws.{settled-same}
 use Rattle.calculate.specs.Whole.{calculation}
 use Rattle.calculate.proofs.FrameLaws.{calculation-keeps}
 use Rattle.path.specs.Path.{onPath}
-use Rattle.change.specs.Edit.{putList}
+use Rattle.change.specs.Edit.{putList, EditFits}
 use Rattle.change.specs.Replace.{reworked}
-use Rattle.path.specs.CardTest.{cardTest}
+use Rattle.path.specs.CardTest.{CardGets, cardTest}
 use Rattle.change.proofs.AcceptLaws.{Accepts, settled-fits, accepted-room, accepted-length, rows-settled}
 use Rattle.change.proofs.EditedLaws.{edited-rows, edited-is-row, edited-row, edited-feeder}
 use Rattle.path.proofs.PathLaws.{on-self}
 use Rattle.change.proofs.SkipLaws.{Rests, fed-off, calculation-path, calculation-same}
-use Rattle.change.proofs.EditLaws.{EditFits}
-use Rattle.path.proofs.CardTestLaws.{fits-pass}
+use Rattle.path.proofs.CardTestLaws.{get-card}
 
 module _ (l c₀ c : List ℕ) (x : Accepts l c₀ c) (place : ℕ) (row : List ℕ) (f : EditFits l place row) where
   abbrev l′ : List ℕ
@@ -50,7 +49,9 @@ module _ (l c₀ c : List ℕ) (x : Accepts l c₀ c) (place : ℕ) (row : List 
     below j h = rw (edited-rows l place row f) h
 
     card-passes : cardTest l′ c ≡ Passed
-    card-passes = fits-pass l′ c (λ j h. settled-fits l (passed-in-range l (x .tested)) c j (below j h) (rows-settled l c₀ c x j (below j h)))
+    card-passes =
+        get-card l′ c
+        (CardGets.passed (λ j h. settled-fits l (passed-in-range l (x .tested)) c j (below j h) (rows-settled l c₀ c x j (below j h))))
 
     -- a row off the path is not the new one
     not-new : (j : ℕ) → onPath l′ (place - 1) j ≡ false → j ≡ place - 1 → ⊥

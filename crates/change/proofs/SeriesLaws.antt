@@ -20,14 +20,14 @@ use Rattle.rows.proofs.TestLaws.{size-passed, size-right}
 use Rattle.rowwise.specs.WorkOut.{Worked, finished, refused, onPassed}
 use Rattle.calculate.specs.Whole.{Result, ending, calculation, whole}
 use Rattle.calculate.proofs.FrameLaws.{framed, calculation-frame}
-use Rattle.change.specs.Edit.{putList, editRight}
+use Rattle.change.specs.Edit.{putList, EditFits, editRight}
 use Rattle.change.specs.Replace.{reworked, Replaced, outcome, replaced}
 use Rattle.change.specs.Series.{Entry, calculated, kept, entered}
 use Rattle.change.proofs.AcceptLaws.{whole-as, calculation-later, Accepts, accepts, accepted-length}
 use Rattle.change.proofs.EditedLaws.{edited-length}
 use Rattle.change.proofs.RefusalLaws.{Refuses}
 use Rattle.change.proofs.ReworkLaws.{reworked-whole}
-use Rattle.change.proofs.EditLaws.{EditFits, edit-fits, fits-edit, edit-passes, edit-refuses}
+use Rattle.change.proofs.EditLaws.{edit-fits, fits-edit, edit-passes, edit-refuses}
 
 -- the answer of the whole calculation does not depend on the card, where it has room
 answer-same :

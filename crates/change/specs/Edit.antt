@@ -1,4 +1,5 @@
--- [01 §4] 10 EDIT: which new rows fit into a list, and the list with one in its place. Definitions only.
+-- [01 §4] 10 EDIT: which new rows fit into a list, as a reader would say it and as the test that is proved to say exactly that;
+-- and the list with one in its place. Definitions only.
 use mathlib.Core.Path.{_≡_}
 use mathlib.Core.Bool.{Bool, cond, _&&_}
 use mathlib.Core.List.{List, _++_}
@@ -16,7 +17,15 @@ use Rattle.layout.specs.List.{rows, field}
 unfoldable pub putList : List ℕ → ℕ → List ℕ → List ℕ
 putList l i row = take (i * fieldCount) l ++ row ++ drop (i * fieldCount + fieldCount) l
 
--- 10 EDIT: the place is that of a row, the new row is 18 numbers, its field 1 is the place, its field 2 is the list's there
+-- EDIT does not apply: the place is that of a row, the new row is 18 numbers, its field 1 is the place, its field 2 the list's there
+pub record EditFits (l : List ℕ) (place : ℕ) (row : List ℕ) : Type 0 where
+  pub from : 1 ≤ place
+  pub to : place ≤ rows l
+  pub row-length : length row ≡ fieldCount
+  pub own-number : getD row 0 0 ≡ place
+  pub same-feeder : getD row atFeeder 0 ≡ field l (place - 1) atFeeder
+
+-- the test of it
 unfoldable pub editRight : List ℕ → ℕ → List ℕ → Bool
 editRight l place row =
     (leb 1 place && leb place (rows l)) && (eqb (length row) fieldCount &&

@@ -1,5 +1,6 @@
 pub mod AnyCard
 pub mod Edit
+pub mod Gets
 pub mod Ready
 pub mod Replace
 pub mod Series
