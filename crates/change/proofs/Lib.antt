@@ -1,6 +1,7 @@
 pub mod AcceptLaws
 pub mod AlongLaws
 pub mod AnyCard
+pub mod Demand1
 pub mod Demand3
 pub mod EditLaws
 pub mod EditedLaws
