@@ -1,10 +1,9 @@
 -- A list with a new row that EDIT lets pass: as long as before, all rows but one as before, every row fed as before, and the
 -- same paths.
-use mathlib.Core.Path.{_≡_, refl, sym, ap, _∙_}
-use mathlib.Core.Bool.{cond}
+use mathlib.Core.Path.{_≡_, sym, ap, _∙_}
 use mathlib.Core.Logic.{⊎-elim}
-use mathlib.Core.List.{List, [], _∷_}
-use Prim.Native.Nat.{ℕ, zero, suc, _+_, _-_, _*_, _/_, _<_}
+use mathlib.Core.List.{List}
+use Prim.Native.Nat.{ℕ, _+_, _-_, _*_, _/_, _<_}
 use native.Mathlib.Omega.{arith}
 use lib.Dec.{eqb, ltb}
 use lib.ListN.{length}
@@ -14,19 +13,9 @@ use Rattle.fold.proofs.BoolLaws.{passes-or-fails}
 use Rattle.layout.specs.Fields.{atFeeder}
 use Rattle.layout.specs.List.{rows, field, rowAt}
 use Rattle.layout.proofs.RowLaws.{same-row}
-use Rattle.path.specs.Path.{pathFrom, pathOf, onPath, has}
+use Rattle.path.specs.Path.{OnPath, itself, above}
 use Rattle.change.specs.Edit.{putList, EditFits, PutReady}
 use Rattle.change.proofs.PutLaws.{putList-length, putList-before, putList-within, putList-after}
-
--- two lists with the same feeding rows have the same paths
-paths-same :
-    (l l′ : List ℕ) → rows l ≡ rows l′ → ((j : ℕ) → field l j atFeeder ≡ field l′ j atFeeder) → (i : ℕ) → pathOf l i ≡ pathOf l′ i
-unfolding pathOf pathFrom
-paths-same l l′ n f i = from (rows l) i ∙ ap (λ (n : ℕ). pathFrom l′ n i) n
-  where
-    from : (n i : ℕ) → pathFrom l n i ≡ pathFrom l′ n i
-    from zero i = refl
-    from (suc n) i = rw f (ap (λ (t : List ℕ). i ∷ cond (eqb (field l′ i atFeeder) 0) [] t) (from n (field l′ i atFeeder - 1)))
 
 module _ (l : List ℕ) (place : ℕ) (row : List ℕ) (f : EditFits l place row) where
   pub edited-put : PutReady l (place - 1) row
@@ -58,6 +47,7 @@ module _ (l : List ℕ) (place : ℕ) (row : List ℕ) (f : EditFits l place row
       (λ b. edited-field j atFeeder (eqb-false j (place - 1) b) (omega arith))
       (passes-or-fails (eqb j (place - 1)))
 
-  pub edited-path : (i j : ℕ) → onPath l i j ≡ onPath (putList l (place - 1) row) i j
-  unfolding onPath
-  edited-path i j = ap (λ (p : List ℕ). has p j) (paths-same l (putList l (place - 1) row) edited-rows edited-feeder i)
+  pub edited-path : {i j : ℕ} → OnPath (putList l (place - 1) row) i j → OnPath l i j
+  edited-path (itself i) = itself i
+  edited-path (above i j n p) =
+      above i j (λ z. n (sym (edited-feeder i) ∙ z)) (rw (edited-feeder i) (edited-path p))

@@ -25,10 +25,11 @@ use Rattle.settle.specs.declared.Settled.the-variants.{Set, Unset}
 use Rattle.settle.specs.Settle.{shown, settled}
 use Rattle.rowwise.specs.WorkOut.{Worked, finished, refused, onSettled, workOut, onPassed}
 use Rattle.rowwise.proofs.EndLaws.{never-finished}
-use Rattle.path.specs.Path.{pathOf, has, onPath}
+use Rattle.path.specs.Path.{OnPath, pathOf, has, onPath}
 use Rattle.change.specs.Edit.{putList, EditFits, editTest}
 use Rattle.change.specs.Replace.{reworked, outcome, replaced}
 use Rattle.change.proofs.EditedLaws.{edited-rows, edited-is-row, edited-path}
+use Rattle.path.proofs.OnPathLaws.{off-path-exactly}
 use Rattle.path.proofs.PathLaws.{on-within}
 use Rattle.change.proofs.RefusalLaws.{Refuses, refuses-done, size-refuses, edit-refuses, reworked-later, passed-refused, passed-finished}
 use Rattle.change.proofs.EditLaws.{edit-passed}
@@ -126,9 +127,12 @@ module _ (l c : List ℕ) (place : ℕ) (row : List ℕ) where
 
   -- a row off the path is none of the new list's path, whose rows are rows of the list
   module _ (f : EditFits l place row) (t : rowsTest (putList l (place - 1) row) ≡ Passed) where
-    pub off-outside : (j : ℕ) → onPath l (place - 1) j ≡ false → has (pathOf (putList l (place - 1) row) (place - 1)) j ≡ false
+    pub off-outside : (j : ℕ) → (OnPath l (place - 1) j → ⊥) → has (pathOf (putList l (place - 1) row) (place - 1)) j ≡ false
     unfolding onPath
-    off-outside j off = sym (edited-path l place row f (place - 1) j) ∙ off
+    off-outside j off =
+        off-path-exactly (putList l (place - 1) row) (passed-feeds (putList l (place - 1) row) t) (place - 1) j
+        (rw (← edited-rows l place row f) (edited-is-row l place row f)) .1
+        (λ o. off (edited-path l place row f o))
 
     pub path-within : (i : ℕ) → has (pathOf (putList l (place - 1) row) (place - 1)) i ≡ true → i * columnCount + columnCount ≤ rows l * columnCount
     unfolding onPath

@@ -1,4 +1,5 @@
 pub mod AcceptLaws
+pub mod AgainLaws
 pub mod AlongLaws
 pub mod AnyCard
 pub mod Demand1

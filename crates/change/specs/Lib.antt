@@ -1,4 +1,5 @@
 pub mod AnyCard
+pub mod Claims
 pub mod Edit
 pub mod Gets
 pub mod Ready
