@@ -83,7 +83,7 @@ module _ (l c : List ℕ) (place : ℕ) (row : List ℕ) where
   get (ReplacementGets.FIELD i k f w) = by-rows f _ (RowsGet.FIELD i k w)
   get (ReplacementGets.TREE i f r w) = by-rows f _ (RowsGet.TREE i r w)
   get (ReplacementGets.CARD i f r b w) = by-card f _ r b (CardGets.CARD i w)
-  get (ReplacementGets.PATH a p z) = by-path a p z
+  get (ReplacementGets.PICKUP-or-DELAY p z) = by-path _ p z
   get (ReplacementGets.DONE k p m) = path-accepted l c place row p k m
 
   -- one of them is given
@@ -95,7 +95,7 @@ module _ (l c : List ℕ) (place : ℕ) (row : List ℕ) where
 
       path : (p : Passes l c place row) → Ended l c place row p → ReplacementGets l c place row answer
       path p (Ended.done d found least) = given (ReplacementGets.DONE (cardRowAt (replaced l c place row .card)) p (path-meets l c place row p d))
-      path p (Ended.refused-by x d z) = given (ReplacementGets.PATH x p z)
+      path p (Ended.refused-by x d z) = given (ReplacementGets.PICKUP-or-DELAY p z)
 
       cards : Fits l c place row → InRange l′ → Feeds l′ → {t : Tested} → CardGets l′ c t → ReplacementGets l c place row answer
       cards f r b (CardGets.passed k) =

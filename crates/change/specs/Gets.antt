@@ -41,6 +41,6 @@ pub data ReplacementGets (l c : List ℕ) (place : ℕ) (row : List ℕ) : Answe
   CARD :
       (i : ℕ) → Fits l c place row → InRange (made l place row) → Feeds (made l place row) → FirstCardOut (made l place row) c i →
       ReplacementGets l c place row (Card (i + 1))
-  -- 6 PICKUP or 7 DELAY
-  PATH : (a : Answer) → Passes l c place row → PathRefused (made l place row) (place - 1) c a → ReplacementGets l c place row a
+  PICKUP-or-DELAY :
+      {a : Answer} → Passes l c place row → PathRefused (made l place row) (place - 1) c a → ReplacementGets l c place row a
   DONE : (k : Settings) → Passes l c place row → PathMeets (made l place row) (place - 1) c k → ReplacementGets l c place row Done
