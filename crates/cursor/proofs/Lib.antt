@@ -1,4 +1,6 @@
 pub mod ByteLaws
+pub mod ByteTheorem
+pub mod CellCases
 pub mod CellLaws
 pub mod DecimalLaws
 pub mod FieldLaws

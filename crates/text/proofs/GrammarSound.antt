@@ -1,15 +1,14 @@
 -- Lines that are all well formed are the grammar's lines: a text is its first line, a CRLF and the rest, or ends there.
-use mathlib.Core.Path.{_≡_, sym, ap, ap₂, subst, _∙_}
-use mathlib.Core.Bool.{true, false, false≢true}
+use mathlib.Core.Path.{_≡_, sym, ap, subst, _∙_}
+use mathlib.Core.Bool.{true, false}
 use mathlib.Core.Logic.{_⊎_, inl, inr, ⊎-elim}
 use mathlib.Core.List.{List, [], _∷_, _++_, map}
 use Prim.Native.Nat.{ℕ, zero, suc, _+_, _≤_, _<_}
 use native.Mathlib.Omega.{arith}
-use lib.Dec.{eqb}
 use lib.ListN.{length, take, drop, length-drop, take-append-drop, drop-of-length-le}
 use lib.Seq.{drop-drop, take-all}
-use borrow.Author.Tests.{eqb-true, not-false}
-use Rattle.fold.proofs.BoolLaws.{and-left, and-right, passes-or-fails, lt-or-le}
+use borrow.Author.Tests.{not-false}
+use Rattle.fold.proofs.BoolLaws.{passes-or-fails, lt-or-le}
 use Rattle.cursor.specs.declared.Class.the-variants.{InLine}
 use Rattle.cursor.specs.declared.Column.{Column}
 use Rattle.cursor.specs.Bytes.{crlf, passes, run}
@@ -18,15 +17,8 @@ use Rattle.text.specs.Line.{isLine}
 use Rattle.text.specs.Text.{lines, lineLength, afterLine, goodLines}
 use Rattle.text.specs.Grammar.{Line, Lines, rowOf}
 use Rattle.text.proofs.GrammarLines.{line-sound}
-use Rattle.text.proofs.GrammarText.{cut-some}
+use Rattle.text.proofs.CrlfLaws.{crlf-next, cut-some}
 use Rattle.text.proofs.RowAtLaws.{good-more, good-none}
-
-crlf-next : (l : List ℕ) → crlf l ≡ true → l ≡ 13 ∷ 10 ∷ drop 2 l
-unfolding crlf
-crlf-next [] h = absurd (false≢true h)
-crlf-next (b ∷ []) h = absurd (false≢true (and-right (eqb b 13) false h))
-crlf-next (b ∷ c ∷ l) h =
-    ap₂ (λ (x y : ℕ). x ∷ y ∷ l) (eqb-true b 13 (and-left (eqb b 13) (eqb c 10) h)) (eqb-true c 10 (and-right (eqb b 13) (eqb c 10) h))
 
 line-stops : (s : List ℕ) → run (passes InLine) s < length s → crlf (drop (run (passes InLine) s) s) ≡ true
 unfolding passes

@@ -1,25 +1,23 @@
 -- A well-formed line holds no CR, so that cutting a text at CRLF first gives back its lines.
-use mathlib.Core.Path.{_≡_, refl, ap, ap₂, _∙_}
-use mathlib.Core.Bool.{Bool, true, not, _&&_}
+use mathlib.Core.Path.{_≡_, refl, ap, ap₂, subst, _∙_}
+use mathlib.Core.Bool.{Bool, true, not, _&&_, false≢true}
 use mathlib.Core.Logic.{_⊎_, inl, inr, ⊎-elim}
-use mathlib.Core.List.{List, [], _∷_, _++_, map, append-nil}
-use Prim.Native.Nat.{ℕ, suc, _+_, _≤_, _<_}
-use native.Mathlib.Nat.{add-zero}
+use mathlib.Core.List.{List, [], _∷_, _++_, map}
+use Prim.Native.Nat.{ℕ, suc, _+_, _<_}
 use native.Mathlib.Omega.{arith}
 use lib.Dec.{leb, eqb}
-use lib.ListN.{length, take, drop, length-append, drop-of-length-le}
-use lib.Seq.{drop-append-add, take-append-seam, take-length}
-use borrow.Author.Tests.{leb-true, ne-eqb, not-true}
+use lib.ListN.{length, length-append}
+use borrow.Author.Tests.{leb-true, ne-eqb}
 use Rattle.fold.proofs.BoolLaws.{and-left, and-right}
-use Rattle.cursor.specs.declared.Class.the-variants.{InLine}
 use Rattle.cursor.specs.declared.Column.{Column}
-use Rattle.cursor.specs.Bytes.{digitByte, plainByte, bareByte, crlf, passes, run}
-use Rattle.text.specs.Text.{lines, lineLength, afterLine, goodLines}
+use Rattle.cursor.specs.Bytes.{digitByte, plainByte, bareByte, run}
+use Rattle.text.specs.Gets.{NoCrlf}
+use Rattle.text.specs.Text.{lines, goodLines}
 use Rattle.text.specs.Grammar.{All, IsNumber, Body, empty, plain, doubled, Form, bare, quoted, Row, Cells, Line, Lines, rowOf}
-use Rattle.text.proofs.GrammarRuns.{run-append, all-append, all-weaker}
+use Rattle.text.proofs.GrammarRuns.{all-append, all-weaker}
 use Rattle.text.proofs.GrammarQuotes.{bare-plain}
 use Rattle.text.proofs.GrammarLines.{line-complete}
-use Rattle.text.proofs.CutLaws.{lines-cut}
+use Rattle.text.proofs.CrlfLaws.{lines-none, lines-last, lines-more}
 use Rattle.text.proofs.RowAtLaws.{good-more}
 
 -- no CR
@@ -74,46 +72,16 @@ line-no-cr h = cells-no-cr h .1
 line-some : {ks : List Column} {l : List ℕ} {r : Row} → Line ks l r → 0 < length l
 line-some h = ⊎-elim (λ e. absurd (omega arith)) (λ e. omega arith) (cells-long h)
 
--- where a line without CR ends
-in-line : (b : ℕ) (l : List ℕ) → noCr b ≡ true → passes InLine (b ∷ l) ≡ true
-unfolding passes crlf
-in-line b l h = rw (not-true (eqb b 13) h)
+-- bytes without CR hold no CRLF
+all-behind : (f : ℕ → Bool) (w v : List ℕ) → All f (w ++ v) → All f v
+all-behind f [] v h = h
+all-behind f (b ∷ w) v h = all-behind f w v (h .1)
 
-crlf-stops : (s : List ℕ) → run (passes InLine) (13 ∷ 10 ∷ s) ≡ 0
-unfolding run passes crlf
-crlf-stops s = refl
+pub no-cr-no-crlf : (l : List ℕ) → All noCr l → NoCrlf l
+no-cr-no-crlf l h x y e = false≢true (all-behind noCr x (13 ∷ 10 ∷ y) (subst (All noCr) e h) .0)
 
-nil-run : run (passes InLine) [] ≡ 0
-unfolding run
-nil-run = refl
-
-pub first-ends : (l s : List ℕ) → All noCr l → lineLength (l ++ 13 ∷ 10 ∷ s) ≡ length l
-unfolding lineLength
-first-ends l s h = run-append noCr (passes InLine) in-line l (13 ∷ 10 ∷ s) h ∙ rw (crlf-stops s) (add-zero (length l))
-
-pub only-ends : (l : List ℕ) → All noCr l → lineLength l ≡ length l
-unfolding lineLength
-only-ends l h =
-    let e : run (passes InLine) (l ++ []) ≡ length l + run (passes InLine) [] = run-append noCr (passes InLine) in-line l [] h in
-    let e′ : run (passes InLine) l ≡ length l + run (passes InLine) [] = rw (append-nil l) at e in
-    e′ ∙ rw nil-run (add-zero (length l))
-
-pub cut-some : (s : List ℕ) → 0 < length s → lines s ≡ take (lineLength s) s ∷ lines (afterLine s)
-cut-some [] h = absurd (omega arith)
-cut-some (b ∷ s) h = lines-cut b s
-
-pub lines-join : (l s : List ℕ) → All noCr l → lines (l ++ 13 ∷ 10 ∷ s) ≡ l ∷ lines s
-unfolding afterLine
-lines-join l s h =
-    let c = cut-some (l ++ 13 ∷ 10 ∷ s) (omega (arith, length-append l (13 ∷ 10 ∷ s))) in
-    c ∙ rw (first-ends l s h, take-append-seam l (13 ∷ 10 ∷ s), drop-append-add l (13 ∷ 10 ∷ s) 2)
-
-pub lines-one : (l : List ℕ) → All noCr l → 0 < length l → lines l ≡ l ∷ []
-unfolding afterLine lines
-lines-one l h k =
-    let o : length l ≤ length l + 2 = omega arith in
-    let e : drop (length l + 2) l ≡ [] = drop-of-length-le l o in
-    cut-some l k ∙ rw (only-ends l h, take-length l, e)
+pub line-no-crlf : {ks : List Column} {l : List ℕ} {r : Row} → Line ks l r → NoCrlf l
+line-no-crlf {ks} {l} h = no-cr-no-crlf l (line-no-cr h)
 
 -- lines of which all are well formed
 pub record RowsThere (ks : List Column) (ls : List (List ℕ)) (rs : List Row) : Type 0 where
@@ -132,7 +100,6 @@ unfolding goodLines run
 none-there = record { good = refl; are = refl }
 
 pub lines-complete : {ks : List Column} {s : List ℕ} {rs : List Row} → Lines ks s rs → RowsThere ks (lines s) rs
-unfolding lines
-lines-complete Lines.none = none-there
-lines-complete (Lines.last {ks} {l} {r} h) = rw (lines-one l (line-no-cr h) (line-some h)) (more-there h [] [] none-there)
-lines-complete (Lines.more {ks} {l} {s} {r} {rs} h t) = rw (lines-join l s (line-no-cr h)) (more-there h (lines s) rs (lines-complete t))
+lines-complete Lines.none = rw lines-none none-there
+lines-complete (Lines.last {ks} {l} {r} h) = rw (lines-last l (line-no-crlf h) (line-some h)) (more-there h [] [] none-there)
+lines-complete (Lines.more {ks} {l} {s} {r} {rs} h t) = rw (lines-more l s (line-no-crlf h)) (more-there h (lines s) rs (lines-complete t))

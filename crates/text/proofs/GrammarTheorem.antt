@@ -1,26 +1,25 @@
--- The grammar theorem [01 §6], over all headers and columns: the reading accepts exactly the texts that the grammar has, its rows are the
--- grammar's rows, and a bad line that it names is the first that is none. Each part cites the laws of lines.
+-- The grammar theorem [01 §6], over all headers and columns: the reading accepts exactly the texts that the grammar has, and its rows are the
+-- grammar's rows. Each part cites the laws of lines. TextTheorem.antt says which answer every other text gets.
 use mathlib.Core.Path.{_≡_, refl, sym, ap, subst, _∙_}
 use mathlib.Core.Bool.{true, false}
 use mathlib.Core.Logic.{_⊎_, ⊎-elim}
 use mathlib.Core.List.{List, [], _∷_, _++_, map}
-use Prim.Native.Nat.{ℕ, _+_, _≤_, _<_}
-use native.Mathlib.Nat.{le-refl, add-zero}
+use Prim.Native.Nat.{ℕ, _+_, _≤_}
+use native.Mathlib.Nat.{le-refl}
 use native.Mathlib.Omega.{arith}
 use lib.Dec.{eqb}
-use lib.ListN.{length, take, drop, getD, drop-of-length-le, length-map}
-use lib.Seq.{getD-drop, drop-append-add, take-append-seam, take-length}
-use borrow.Author.Tests.{eqb-true, eq-eqb, eqb-false}
-use Rattle.fold.proofs.BoolLaws.{passes-or-fails, not-both, zero-not-one}
+use lib.ListN.{length, take, length-map}
+use borrow.Author.Tests.{eqb-true, eq-eqb}
+use Rattle.fold.proofs.BoolLaws.{passes-or-fails, zero-not-one}
 use Rattle.cursor.specs.declared.Column.{Column}
-use Rattle.cursor.specs.Bytes.{run}
-use Rattle.cursor.proofs.RunLaws.{run-length, run-end, run-at}
 use Rattle.text.specs.declared.Reading.the-variants.{BadLine, Rows}
-use Rattle.text.specs.Line.{isLine}
-use Rattle.text.specs.Text.{textMost, lines, lineLength, afterLine, nextIsLine, goodLines, linesRead, sameBytes, sizeRight, headed, rowLines, readAs}
-use Rattle.text.specs.Grammar.{All, Row, Line, Lines, Text, alone, rows, rowOf, rowsAs}
-use Rattle.text.proofs.GrammarLines.{line-sound, line-complete}
-use Rattle.text.proofs.GrammarText.{noCr, first-ends, only-ends, RowsThere, lines-complete}
+use Rattle.text.specs.Text.{textMost, lines, lineLength, afterLine, goodLines, linesRead, sizeRight, headed, rowLines, readAs}
+use Rattle.text.specs.Text.{allNumbers, numbersAs}
+use Rattle.text.specs.Line.{numbersOf}
+use Rattle.text.specs.Gets.{NoCrlf}
+use Rattle.text.specs.Grammar.{Row, Lines, Text, alone, rows, rowOf, rowsAs, numbersIn}
+use Rattle.text.proofs.CrlfLaws.{first-is, only-is, first-behind, only-behind}
+use Rattle.text.proofs.GrammarText.{RowsThere, lines-complete}
 use Rattle.text.proofs.SameLaws.{same-equal, same-refl}
 use Rattle.text.proofs.TextLaws.{size-right}
 use Rattle.text.proofs.GrammarSound.{split, lines-sound}
@@ -44,21 +43,36 @@ lines-accepted ks k ls n =
     (λ (p : eqb (goodLines ks ls) (length ls) ≡ false). rw p (λ (e : BadLine (k + goodLines ks ls) ≡ Rows n). absurd (zero-not-one cc)))
     (passes-or-fails (eqb (goodLines ks ls) (length ls)))
 
+-- the first line is the header
+pub headed-line : (h s : List ℕ) → headed h s ≡ true → take (lineLength s) s ≡ h
+unfolding headed
+headed-line h s q = same-equal (take (lineLength s) s) h q
+
 module _ (h : List ℕ) (ks : List Column) (k : ℕ) (s : List ℕ) where
+  -- the reading by its tests, in their order
+  pub read-long : sizeRight s ≡ false → readAs h ks k s ≡ BadLine 0
+  unfolding readAs
+  read-long p = rw p
+
+  pub read-unheaded : sizeRight s ≡ true → headed h s ≡ false → readAs h ks k s ≡ BadLine k
+  unfolding readAs
+  read-unheaded p q = rw (p, q)
+
+  pub read-lines : sizeRight s ≡ true → headed h s ≡ true → readAs h ks k s ≡ linesRead ks (k + 1) (rowLines s)
+  unfolding readAs
+  read-lines p q = rw (p, q)
+
   pub accepted : (n : ℕ) → readAs h ks k s ≡ Rows n → Accepted h ks s n
-  unfolding readAs headed
-  accepted n =
+  accepted n e =
       ⊎-elim
       (λ (p : sizeRight s ≡ true).
       ⊎-elim
-      (λ (q : sameBytes (take (lineLength s) s) h ≡ true).
-      rw (p, q)
-      (λ e.
-      let a = lines-accepted ks (k + 1) (rowLines s) n e in
-      record { size = p; headed-is = q; head = same-equal (take (lineLength s) s) h q; good = a .0; count = a .1 }))
-      (λ (q : sameBytes (take (lineLength s) s) h ≡ false). rw (p, q) (λ (e : BadLine k ≡ Rows n). absurd (zero-not-one cc)))
-      (passes-or-fails (sameBytes (take (lineLength s) s) h)))
-      (λ (p : sizeRight s ≡ false). rw p (λ (e : BadLine 0 ≡ Rows n). absurd (zero-not-one cc)))
+      (λ (q : headed h s ≡ true).
+      let a = lines-accepted ks (k + 1) (rowLines s) n (sym (read-lines p q) ∙ e) in
+      record { size = p; headed-is = q; head = headed-line h s q; good = a .0; count = a .1 })
+      (λ (q : headed h s ≡ false). let z : BadLine k ≡ Rows n = sym (read-unheaded p q) ∙ e in absurd (zero-not-one cc))
+      (passes-or-fails (headed h s)))
+      (λ (p : sizeRight s ≡ false). let z : BadLine 0 ≡ Rows n = sym (read-long p) ∙ e in absurd (zero-not-one cc))
       (passes-or-fails (sizeRight s))
 
   -- Whatever the reading accepts is a text of the grammar, with as many rows as it says.
@@ -85,80 +99,40 @@ module _ (h : List ℕ) (ks : List Column) (k : ℕ) (s : List ℕ) where
           (subst (λ (x : List ℕ). Text h ks h (map (rowOf ks) (lines x))) (sym (e .1)) alone))
 
 -- a text of that first line, with these rows behind it
-accepts :
-    (h : List ℕ) (ks : List Column) (k : ℕ) (s rest : List ℕ) (rs : List Row) → length s ≤ textMost → take (lineLength s) s ≡ h →
-    afterLine s ≡ rest →
-    RowsThere ks (lines rest) rs → (readAs h ks k s ≡ Rows (length rs)) × (rowsAs ks s ≡ rs)
-unfolding readAs headed rowLines linesRead rowsAs
-accepts h ks k s rest rs l e f t =
-    let n : length (lines rest) ≡ length rs = sym (length-map (lines rest) (rowOf ks)) ∙ ap length (t .are) in
-    (rw (size-right s l, e, same-refl h, f, t .good, eq-eqb (length (lines rest)) (length (lines rest)) refl, n), rw f (t .are))
+module _
+    (h : List ℕ) (ks : List Column) (s rest : List ℕ) (rs : List Row) (f : afterLine s ≡ rest) (t : RowsThere ks (lines rest) rs) where
+  rows-are : rowsAs ks s ≡ rs
+  unfolding rowLines rowsAs
+  rows-are = rw f (t .are)
+
+  accepts : (k : ℕ) → length s ≤ textMost → take (lineLength s) s ≡ h → readAs h ks k s ≡ Rows (length rs)
+  unfolding headed rowLines linesRead
+  accepts k l e =
+      let n : length (lines rest) ≡ length rs = sym (length-map (lines rest) (rowOf ks)) ∙ ap length (t .are) in
+      read-lines h ks k s (size-right s l) (rw (e, same-refl h)) ∙
+      rw (f, t .good, eq-eqb (length (lines rest)) (length (lines rest)) refl, n)
 
 -- Every text of the grammar that is not too long is accepted, and its rows are the grammar's, where the header is one line.
-pub text-complete :
-    (h : List ℕ) (ks : List Column) (k : ℕ) (s : List ℕ) (rs : List Row) → All noCr h → length s ≤ textMost → Text h ks s rs →
-    (readAs h ks k s ≡ Rows (length rs)) × (rowsAs ks s ≡ rs)
-unfolding afterLine
-text-complete h ks k s rs one l alone =
-    let e = only-ends h one in
-    let o : length h ≤ lineLength h + 2 = omega arith in
-    accepts h ks k h [] [] l (rw e (take-length h)) (drop-of-length-le h o) (lines-complete Lines.none)
-text-complete h ks k s rs one l (rows {s = t} r) =
-    let e = first-ends h t one in
-    accepts h ks k (h ++ 13 ∷ 10 ∷ t) t rs l (rw e (take-append-seam h (13 ∷ 10 ∷ t))) (rw e (drop-append-add h (13 ∷ 10 ∷ t) 2)) (lines-complete r)
+module _ (h : List ℕ) (ks : List Column) (one : NoCrlf h) where
+  pub text-accepted : (k : ℕ) {s : List ℕ} {rs : List Row} → length s ≤ textMost → Text h ks s rs → readAs h ks k s ≡ Rows (length rs)
+  text-accepted k l alone = accepts h ks h [] [] (only-behind h one) (lines-complete Lines.none) k l (only-is h one)
+  text-accepted k l (rows {s = t} {rs = rs} r) =
+      accepts h ks (h ++ 13 ∷ 10 ∷ t) t rs (first-behind h t one) (lines-complete r) k l (first-is h t one)
 
--- A bad line behind the header that is named is the first that is none: those before it are lines, and it is not.
-pub record FirstBad (ks : List Column) (s : List ℕ) (j : ℕ) : Type 0 where
-  pub inside : j < length (rowLines s)
-  pub before : (i : ℕ) → i < j → Line ks (getD (rowLines s) i []) (rowOf ks (getD (rowLines s) i []))
-  pub bad : (r : Row) → Line ks (getD (rowLines s) j []) r → ⊥
+  pub text-rows : {s : List ℕ} {rs : List Row} → Text h ks s rs → rowsAs ks s ≡ rs
+  text-rows alone = rows-are h ks h [] [] (only-behind h one) (lines-complete Lines.none)
+  text-rows (rows {s = t} {rs = rs} r) = rows-are h ks (h ++ 13 ∷ 10 ∷ t) t rs (first-behind h t one) (lines-complete r)
 
-line-at : (ks : List Column) (ls : List (List ℕ)) (i : ℕ) → nextIsLine ks (drop i ls) ≡ isLine ks (getD ls i [])
-unfolding nextIsLine
-line-at ks ls i = rw (getD-drop i ls 0 [], add-zero i)
+  pub text-complete :
+      (k : ℕ) (s : List ℕ) (rs : List Row) → length s ≤ textMost → Text h ks s rs → (readAs h ks k s ≡ Rows (length rs)) × (rowsAs ks s ≡ rs)
+  text-complete k s rs l t = (text-accepted k l t, text-rows t)
 
-first-bad :
-    (ks : List Column) (s : List ℕ) (j : ℕ) → goodLines ks (rowLines s) ≡ j →
-    (goodLines ks (rowLines s) ≡ length (rowLines s) → ⊥) → FirstBad ks s j
-unfolding goodLines
-first-bad ks s j e n =
-    let q = run-length (nextIsLine ks) [] (rowLines s) in
-    let l : run (nextIsLine ks) (rowLines s) < length (rowLines s) = omega (arith, n, q) in
-    record {
-      inside = omega arith;
-      before =
-          λ i h.
-          line-sound ks (getD (rowLines s) i [])
-          (sym (line-at ks (rowLines s) i) ∙ run-at (nextIsLine ks) [] (rowLines s) i (omega arith));
-      bad =
-          λ r h.
-          not-both (line-complete h .good)
-          (sym (line-at ks (rowLines s) j) ∙ rw (← e) (run-end (nextIsLine ks) [] (rowLines s) l));
-    }
+-- the numbers that the reader writes are those of the rows
+numbers-of-lines : (ks : List Column) (ls : List (List ℕ)) → numbersIn (map (rowOf ks) ls) ≡ allNumbers ks ls
+unfolding numbersIn allNumbers rowOf
+numbers-of-lines ks [] = refl
+numbers-of-lines ks (l ∷ ls) = ap (λ (x : List ℕ). numbersOf ks l ++ x) (numbers-of-lines ks ls)
 
-bad-lines : (ks : List Column) (k : ℕ) (s : List ℕ) (j : ℕ) → linesRead ks k (rowLines s) ≡ BadLine (k + j) → FirstBad ks s j
-unfolding linesRead
-bad-lines ks k s j =
-    ⊎-elim
-    (λ (p : eqb (goodLines ks (rowLines s)) (length (rowLines s)) ≡ true).
-    rw p (λ (e : Rows (goodLines ks (rowLines s)) ≡ BadLine (k + j)). absurd (zero-not-one cc)))
-    (λ (p : eqb (goodLines ks (rowLines s)) (length (rowLines s)) ≡ false).
-    rw p
-    (λ (e : BadLine (k + goodLines ks (rowLines s)) ≡ BadLine (k + j)).
-    let z : k + goodLines ks (rowLines s) ≡ k + j = cc in
-    first-bad ks s j (omega arith) (eqb-false (goodLines ks (rowLines s)) (length (rowLines s)) p)))
-    (passes-or-fails (eqb (goodLines ks (rowLines s)) (length (rowLines s))))
-
-pub bad-line : (h : List ℕ) (ks : List Column) (k : ℕ) (s : List ℕ) (j : ℕ) → readAs h ks k s ≡ BadLine (k + 1 + j) → FirstBad ks s j
-unfolding readAs
-bad-line h ks k s j =
-    ⊎-elim
-    (λ (p : sizeRight s ≡ true).
-    ⊎-elim
-    (λ (q : headed h s ≡ true). rw (p, q) (bad-lines ks (k + 1) s j))
-    (λ (q : headed h s ≡ false).
-    rw (p, q) (λ (e : BadLine k ≡ BadLine (k + 1 + j)). absurd (let z : k ≡ k + 1 + j = cc in omega arith)))
-    (passes-or-fails (headed h s)))
-    (λ (p : sizeRight s ≡ false).
-    rw p (λ (e : BadLine 0 ≡ BadLine (k + 1 + j)). absurd (let z : 0 ≡ k + 1 + j = cc in omega arith)))
-    (passes-or-fails (sizeRight s))
+pub numbers-in : (ks : List Column) (s : List ℕ) → numbersIn (rowsAs ks s) ≡ numbersAs ks s
+unfolding rowsAs numbersAs
+numbers-in ks s = numbers-of-lines ks (rowLines s)

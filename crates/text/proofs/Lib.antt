@@ -1,8 +1,10 @@
 pub mod BlockLaws
 pub mod ColumnLaws
+pub mod CrlfLaws
 pub mod CutLaws
 pub mod ExampleLaws
 pub mod FillLaws
+pub mod FirstBadLaws
 pub mod GrammarLines
 pub mod GrammarNames
 pub mod GrammarNumbers
@@ -17,5 +19,6 @@ pub mod RowAtLaws
 pub mod SameLaws
 pub mod StandLaws
 pub mod TextLaws
+pub mod TextTheorem
 pub mod TurnLaws
 pub mod WalkLaws

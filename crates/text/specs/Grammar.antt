@@ -75,13 +75,18 @@ pub data Text : List ℕ → List Column → List ℕ → List Row → Type 0 wh
   alone : {h : List ℕ} {ks : List Column} → Text h ks h []
   rows : {h s : List ℕ} {ks : List Column} {rs : List Row} → Lines ks s rs → Text h ks (h ++ 13 ∷ 10 ∷ s) rs
 
--- the row that the reader finds in a line, the rows that it finds in a text, and all names of rows
+-- the row that the reader finds in a line, and the rows that it finds in a text
 unfoldable pub rowOf : List Column → List ℕ → Row
 rowOf ks l = record { numbers = numbersOf ks l; names = namesOf ks l }
 
 unfoldable pub rowsAs : List Column → List ℕ → List Row
 rowsAs ks s = map (rowOf ks) (rowLines s)
 
+-- the names of rows, and their numbers, one row after the other
 unfoldable pub allNames : List Row → List (List ℕ)
 allNames [] = []
 allNames (r ∷ rs) = r .names ++ allNames rs
+
+unfoldable pub numbersIn : List Row → List ℕ
+numbersIn [] = []
+numbersIn (r ∷ rs) = r .numbers ++ numbersIn rs

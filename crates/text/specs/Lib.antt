@@ -1,3 +1,4 @@
+pub mod Gets
 pub mod Grammar
 pub mod Line
 pub mod Text
