@@ -22,15 +22,15 @@ digits-few (suc k) v =
     (λ (p : ltb v 10 ≡ false). rw p (let h = digits-few k (v / 10) in omega (arith, length-append (lastDigits k (v / 10)) (lastDigit v ∷ []))))
     (passes-or-fails (ltb v 10))
 
-digits-one : (k v : ℕ) → v < 10 → lastDigits (suc k) v ≡ lastDigit v ∷ []
+pub digits-one : (k v : ℕ) → v < 10 → lastDigits (suc k) v ≡ lastDigit v ∷ []
 unfolding lastDigits
 digits-one k v h = rw (lt-ltb v 10 h)
 
-digits-step : (k v : ℕ) → 10 ≤ v → lastDigits (suc k) v ≡ lastDigits k (v / 10) ++ (lastDigit v ∷ [])
+pub digits-step : (k v : ℕ) → 10 ≤ v → lastDigits (suc k) v ≡ lastDigits k (v / 10) ++ (lastDigit v ∷ [])
 unfolding lastDigits
 digits-step k v h = rw (le-ltb v 10 h)
 
-tenth : (k v : ℕ) → v < 10 ^ suc k → v / 10 < 10 ^ k
+pub tenth : (k v : ℕ) → v < 10 ^ suc k → v / 10 < 10 ^ k
 tenth k v h = let e : v < 10 ^ k * 10 = rw (pow-suc 10 k) at h in omega arith
 
 -- one digit more than enough changes nothing

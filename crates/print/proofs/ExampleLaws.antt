@@ -1,0 +1,21 @@
+-- Section 6's card and a refusal, letter by letter as they are printed [01 §6].
+use mathlib.Core.Path.{_≡_, refl}
+use mathlib.Core.List.{List, [], _∷_}
+use Rattle.cursor.specs.Spelt.{spelt}
+use Rattle.print.specs.Write.{lastDigit, lastDigits, numberText}
+use Rattle.print.specs.Card.{fieldsText, lineText, rowsText, cardText, refusalText}
+
+pub card-printed :
+    cardText (spelt "F1" ∷ spelt "IN" ∷ []) (318000 ∷ 1900 ∷ 1300000 ∷ 360000 ∷ 2200 ∷ 4290000 ∷ []) ≡
+    spelt "name,pickup,delay,cutoff\r\nF1,318000,1900,1300000\r\nIN,360000,2200,4290000\r\n"
+unfolding lastDigit lastDigits numberText fieldsText lineText rowsText cardText spelt
+card-printed = refl
+
+pub refusal-printed : refusalText (4 ∷ 2 ∷ 12 ∷ []) ≡ spelt "refused,place,field\r\n4,2,12\r\n"
+unfolding lastDigit lastDigits numberText fieldsText refusalText spelt
+refusal-printed = refl
+
+-- 0 is a digit, and the longest number has 20
+pub numbers-printed : (numberText 0 ≡ spelt "0") × (numberText 18446744073709551615 ≡ spelt "18446744073709551615")
+unfolding lastDigit lastDigits numberText spelt
+numbers-printed = (refl, refl)
