@@ -1,11 +1,11 @@
 -- The bytes of section 6 by their numbers [01 §6]: which are digits, which stand in a name without quotes and within quotes, and what CRLF is.
-use mathlib.Core.Path.{_≡_, refl, ap, ap₂}
+use mathlib.Core.Path.{_≡_, ap, ap₂}
 use mathlib.Core.Bool.{true, false, not, _&&_, false≢true}
 use mathlib.Core.Logic.{_↔_}
 use mathlib.Core.List.{List, [], _∷_}
 use Prim.Native.Nat.{ℕ, _≤_}
 use lib.Dec.{leb, eqb}
-use lib.ListN.{drop}
+use lib.ListN.{getD}
 use borrow.Author.Tests.{leb-true, le-leb, eqb-true, eqb-false, ne-eqb, not-true}
 use Rattle.fold.proofs.BoolLaws.{and-left, and-right, and-both}
 use Rattle.cursor.specs.Bytes.{digitByte, plainByte, bareByte, crlf}
@@ -43,7 +43,7 @@ pub crlf-exactly : (l : List ℕ) → (crlf l ≡ true) ↔ ((rest : List ℕ) �
 unfolding crlf
 crlf-exactly l = (to l, λ e. rw (e .1))
   where
-    to : (l : List ℕ) → (eqb (lib.ListN.getD l 0 0) 13 && eqb (lib.ListN.getD l 1 0) 10) ≡ true → (rest : List ℕ) × (l ≡ 13 ∷ 10 ∷ rest)
+    to : (l : List ℕ) → (eqb (getD l 0 0) 13 && eqb (getD l 1 0) 10) ≡ true → (rest : List ℕ) × (l ≡ 13 ∷ 10 ∷ rest)
     to [] h = absurd (false≢true h)
     to (b ∷ []) h = absurd (false≢true (and-right (eqb b 13) false h))
     to (b ∷ c ∷ l) h =

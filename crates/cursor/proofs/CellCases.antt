@@ -1,6 +1,6 @@
 -- The worked cases of cells, all at once: each computes to what its line of the table says.
 use mathlib.Core.Path.{_≡_, refl}
-use mathlib.Core.List.{List, map}
+use mathlib.Core.List.{map}
 use Rattle.cursor.specs.Bytes.{digitByte, plainByte, bareByte, passes, run}
 use Rattle.cursor.specs.Pieces.{digits, isNumber, decimal, numberOf, plainPart, bareEnd, nameEnd, isFound, placeFound, isName, nameLength}
 use Rattle.cursor.specs.Pieces.{isComma, numberAt, nameAt, cellAt, fieldAt}

@@ -1,6 +1,6 @@
 -- Section 6's card and a refusal, letter by letter as they are printed [01 §6].
 use mathlib.Core.Path.{_≡_, refl}
-use mathlib.Core.List.{List, [], _∷_}
+use mathlib.Core.List.{[], _∷_}
 use Rattle.cursor.specs.Spelt.{spelt}
 use Rattle.print.specs.Write.{lastDigit, lastDigits, numberText}
 use Rattle.print.specs.Card.{fieldsText, lineText, rowsText, cardText, refusalText}

@@ -1,2 +1,3 @@
-pub mod Sheet
+pub mod Given
 pub mod Ready
+pub mod Sheet
