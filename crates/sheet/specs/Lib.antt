@@ -1,3 +1,4 @@
+pub mod Again
 pub mod Given
 pub mod Ready
 pub mod Sheet
