@@ -1,3 +1,4 @@
+pub mod Cases
 pub mod FedLaws
 pub mod PickupLaws
 pub mod OutcomeLaws

@@ -1,3 +1,5 @@
+pub mod Cases
 pub mod Conditions
 pub mod Fed
+pub mod Inequalities
 pub mod Settle

@@ -1,0 +1,149 @@
+-- [01 §3, §4] Worked cases of one row's conditions and of its settling, each worked out by hand from the section, on each side of
+-- every bound. Rows are named by their numbers, from 1. Definitions only.
+use mathlib.Core.Bool.{Bool, true, false}
+use mathlib.Core.List.{List, [], _∷_}
+use Prim.Native.Nat.{ℕ, zero, suc, _+_, _-_, _*_}
+use lib.ListN.{set}
+use Rattle.answers.specs.Answer.{reasonNumber}
+use Rattle.layout.specs.Card.{columnsOf}
+use Rattle.layout.specs.Counts.{fieldCount}
+use Rattle.layout.specs.Fields.{atKind, atFar, atNear, atLow, atHigh, atFloor, atCeiling, atBacked}
+use Rattle.layout.specs.View.{viewOf, Settings}
+use Rattle.layout.specs.declared.CardRow.{CardRow}
+use Rattle.layout.specs.declared.Row.{Row}
+use Rattle.settle.specs.declared.Settled.{Settled}
+use Rattle.settle.specs.declared.Settled.the-variants.{Set, Unset}
+use Rattle.settle.specs.Conditions.{eachFed, returnsAfterSelfStart, clearOf, seesOwnZone, backsUp}
+use Rattle.settle.specs.Conditions.{withinDelays, gradedAbove, staysClear, seesNear}
+use Rattle.settle.specs.Settle.{shown, settled}
+
+-- A line (6,000 V) fed by a transformer (10,000 V, not backed), which with a motor (400 V) is fed by a line (6,000 V). The
+-- devices below it are 1, 2 and 3.
+unfoldable pub network : List ℕ
+network =
+    1 ∷ 2 ∷ 1 ∷ 6000 ∷ 10000 ∷ 1100 ∷ 1000 ∷ 90000 ∷ 100000 ∷ 146520 ∷ 1200 ∷ 2100 ∷ 502100 ∷ 10000 ∷ 1 ∷ 0 ∷ 1000 ∷ 1 ∷
+    2 ∷ 4 ∷ 2 ∷ 10000 ∷ 30000 ∷ 1000 ∷ 800 ∷ 80000 ∷ 500000 ∷ 1002500 ∷ 1000 ∷ 1250 ∷ 1001250 ∷ 10000 ∷ 2 ∷ 0 ∷ 700 ∷ 0 ∷
+    3 ∷ 4 ∷ 3 ∷ 400 ∷ 150000 ∷ 5000 ∷ 1000 ∷ 2250000 ∷ 1000000 ∷ 3050000 ∷ 1500 ∷ 25000 ∷ 9925000 ∷ 100000 ∷ 3 ∷ 0 ∷ 500 ∷ 1 ∷
+    4 ∷ 0 ∷ 1 ∷ 6000 ∷ 50000 ∷ 1600 ∷ 880 ∷ 300000 ∷ 1000000 ∷ 1561200 ∷ 1300 ∷ 61000 ∷ 1921000 ∷ 20000 ∷ 1 ∷ 1000 ∷
+    1500 ∷ 0 ∷ []
+
+abbrev row : ℕ → Row
+row n = viewOf network .row (n - 1)
+
+-- the settings of the rows below: pickup and delay
+abbrev card : ℕ → ℕ → CardRow
+card I t = record { pickup = I; delay = t; cutoff = 0 }
+
+unfoldable pub below : Settings
+below zero = card 20000 400
+below (suc zero) = card 60000 700
+below (suc (suc j)) = card 750000 100
+
+-- a test, and what the section says of it
+pub record Judged : Type 0 where
+  pub test : Bool
+  pub is : Bool
+
+abbrev holds : Bool → Judged
+holds b = record { test = b; is = true }
+
+abbrev fails : Bool → Judged
+fails b = record { test = b; is = false }
+
+-- P2 of row n above row m, and above every row that it feeds; D2 above row m; the others are named as they are
+abbrev clearAbove : ℕ → ℕ → ℕ → Bool
+clearAbove n m I = clearOf (viewOf network) below (n - 1) (m - 1) I
+
+abbrev clearAboveAll : ℕ → ℕ → Bool
+clearAboveAll n I = eachFed (viewOf network) (n - 1) (λ j. clearOf (viewOf network) below (n - 1) j I)
+
+abbrev laterThan : ℕ → ℕ → Bool
+laterThan m t = gradedAbove (row m) (below (m - 1)) t
+
+unfoldable pub conditions : List Judged
+conditions =
+    -- P1: 10 × 12,100 × 1,000 = 11 × 1,100 × 10,000, and the same of rows 2, 3 and 4
+    holds (returnsAfterSelfStart (row 1) 12100) ∷ fails (returnsAfterSelfStart (row 1) 12099)
+    ∷ holds (returnsAfterSelfStart (row 2) 41250) ∷ fails (returnsAfterSelfStart (row 2) 41249)
+    ∷ holds (returnsAfterSelfStart (row 3) 825000) ∷ fails (returnsAfterSelfStart (row 3) 824999)
+    ∷ holds (returnsAfterSelfStart (row 4) 100000) ∷ fails (returnsAfterSelfStart (row 4) 99999)
+    -- P2: 10 × 121,000 × 6,000 = 11 × (60,000 × 10,000 + 150,000 × 400), the motor being the other
+    ∷ holds (clearAbove 4 2 121000) ∷ fails (clearAbove 4 2 120999)
+    -- 10 × 110,000 × 6,000 = 11 × (750,000 × 400 + 30,000 × 10,000), the transformer being the other
+    ∷ holds (clearAbove 4 3 110000) ∷ fails (clearAbove 4 3 109999)
+    ∷ holds (clearAboveAll 4 121000) ∷ fails (clearAboveAll 4 120999)
+    -- 10 × 13,200 × 10,000 = 11 × 20,000 × 6,000, and no other
+    ∷ holds (clearAboveAll 2 13200) ∷ fails (clearAboveAll 2 13199)
+    -- P3: 10 × 300,000 = 15 × 200,000
+    ∷ holds (seesOwnZone (row 4) 200000) ∷ fails (seesOwnZone (row 4) 200001)
+    -- P4: 10 × 2,250,000 × 400 = 12 × 125,000 × 6,000, and 10 × 90,000 × 6,000 = 12 × 45,000 × 10,000; row 2 is not backed
+    ∷ holds (backsUp (row 4) (row 3) 125000) ∷ fails (backsUp (row 4) (row 3) 125001)
+    ∷ holds (backsUp (row 2) (row 1) 45000) ∷ fails (backsUp (row 2) (row 1) 45001)
+    ∷ holds (backsUp (row 4) (row 2) 100000000)
+    -- D1: floor 1,000 and ceiling 1,500; the motor waits 100, and no other does
+    ∷ holds (withinDelays (row 4) 1000) ∷ fails (withinDelays (row 4) 999)
+    ∷ holds (withinDelays (row 4) 1500) ∷ fails (withinDelays (row 4) 1501)
+    ∷ holds (withinDelays (row 3) 100) ∷ fails (withinDelays (row 3) 99)
+    ∷ holds (withinDelays (row 1) 0) ∷ holds (withinDelays (row 2) 0)
+    -- D2 above devices 1, 2 and 3: 400 + 300, 700 + 500, 100 + 200
+    ∷ holds (laterThan 1 700) ∷ fails (laterThan 1 699)
+    ∷ holds (laterThan 2 1200) ∷ fails (laterThan 2 1199)
+    ∷ holds (laterThan 3 300) ∷ fails (laterThan 3 299)
+    -- cutoff: 1,000 × 1,300,000 = 1,300 × 1,000,000
+    ∷ holds (staysClear (row 4) 1300000) ∷ fails (staysClear (row 4) 1299999)
+    -- 10 × 1,561,200 = 12 × 1,301,000 for a line; 10 × 1,002,500 = 20 × 501,250 for a transformer; 10 × 3,050,000 =
+    -- 20 × 1,525,000 for a motor
+    ∷ holds (seesNear (row 4) 1301000) ∷ fails (seesNear (row 4) 1301001)
+    ∷ holds (seesNear (row 2) 501250) ∷ fails (seesNear (row 2) 501251)
+    ∷ holds (seesNear (row 3) 1525000) ∷ fails (seesNear (row 3) 1525001)
+    ∷ []
+
+-- a row settled: its card row, or the number of its refusal
+abbrev outcome : Settled → List ℕ
+outcome (Set o) = columnsOf (shown o)
+outcome (Unset why) = reasonNumber why ∷ []
+
+-- what a row comes to, and what sections 3 and 4 say of it
+pub record Worked : Type 0 where
+  pub comes : List ℕ
+  pub is : List ℕ
+
+abbrev settles : List ℕ → ℕ → List ℕ → Worked
+settles l n o = record { comes = outcome (settled (viewOf l) below (n - 1)); is = o }
+
+-- the list with another number in a field of row n
+abbrev with : List ℕ → ℕ → ℕ → ℕ → List ℕ
+with l n k x = set l ((n - 1) * fieldCount + k) x
+
+unfoldable pub settlings : List Worked
+settlings =
+    settles network 1 (12100 ∷ 0 ∷ 122100 ∷ [])
+    ∷ settles network 2 (41250 ∷ 700 ∷ 501250 ∷ [])
+    ∷ settles network 3 (825000 ∷ 100 ∷ 1525000 ∷ [])
+    ∷ settles network 4 (121000 ∷ 1200 ∷ 1301000 ∷ [])
+    -- the least pickup offered is 61,001 + 3 × 20,000; a cutoff at 1,301,001 would not see its near fault
+    ∷ settles (with network 4 atLow 61001) 4 (121001 ∷ 1200 ∷ 0 ∷ [])
+    -- the greatest offered is the pickup, and none is left for the cutoff; one less, and there is no pickup
+    ∷ settles (with network 4 atHigh 121000) 4 (121000 ∷ 1200 ∷ 0 ∷ [])
+    ∷ settles (with network 4 atHigh 120999) 4 (6 ∷ [])
+    -- P3, and P4 of the motor and of the transformer where it is backed, at the least pickup and one off
+    ∷ settles (with network 4 atFar 181500) 4 (121000 ∷ 1200 ∷ 1301000 ∷ [])
+    ∷ settles (with network 4 atFar 181499) 4 (6 ∷ [])
+    ∷ settles (with network 3 atFar 2178000) 4 (121000 ∷ 1200 ∷ 1301000 ∷ [])
+    ∷ settles (with network 3 atFar 2177999) 4 (6 ∷ [])
+    ∷ settles (with (with network 2 atBacked 1) 2 atFar 87120) 4 (121000 ∷ 1200 ∷ 1301000 ∷ [])
+    ∷ settles (with (with network 2 atBacked 1) 2 atFar 87119) 4 (6 ∷ [])
+    -- the delay at the ceiling and one off; from the floor on
+    ∷ settles (with network 4 atCeiling 1200) 4 (121000 ∷ 1200 ∷ 1301000 ∷ [])
+    ∷ settles (with network 4 atCeiling 1199) 4 (7 ∷ [])
+    ∷ settles (with network 4 atFloor 1201) 4 (121000 ∷ 1201 ∷ 1301000 ∷ [])
+    ∷ settles (with network 3 atCeiling 100) 3 (825000 ∷ 100 ∷ 1525000 ∷ [])
+    ∷ settles (with network 3 atCeiling 99) 3 (7 ∷ [])
+    -- neither a pickup nor a delay: 6 before 7
+    ∷ settles (with (with network 4 atFar 181499) 4 atCeiling 1199) 4 (6 ∷ [])
+    -- the cutoff of a line one off, and the same row as a transformer
+    ∷ settles (with network 4 atNear 1561199) 4 (121000 ∷ 1200 ∷ 0 ∷ [])
+    ∷ settles (with network 4 atKind 2) 4 (121000 ∷ 1200 ∷ 0 ∷ [])
+    ∷ settles (with (with network 4 atKind 2) 4 atNear 2602000) 4 (121000 ∷ 1200 ∷ 1301000 ∷ [])
+    ∷ settles (with (with network 4 atKind 2) 4 atNear 2601999) 4 (121000 ∷ 1200 ∷ 0 ∷ [])
+    ∷ []
