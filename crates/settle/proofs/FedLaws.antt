@@ -6,7 +6,7 @@ use Prim.Native.Nat.{ℕ, _+_, _-_, _*_, _≤_, _<_}
 use native.Mathlib.Nat.{mul-le-mul, mul-le-mul-left, mul-assoc, le-trans}
 use native.Mathlib.Omega.{arith}
 use lib.Dec.{leb, eqb}
-use borrow.Author.Tests.{le-leb, leb-true, eq-eqb, ne-eqb}
+use borrow.Author.Tests.{le-leb, leb-true, eq-eqb, ne-eqb, eqb-true}
 use Rattle.fold.specs.Fold.{maxTo}
 use Rattle.fold.proofs.BoolLaws.{passes-or-fails, implies, implied, same-test}
 use Rattle.fold.proofs.FoldLaws.{Attained, maxTo-attained, le-maxTo, sumTo-zero, sumTo-others, every-at, every-of}
@@ -16,6 +16,7 @@ use Rattle.layout.specs.Range.{AllBounded}
 use Rattle.settle.specs.Conditions.{fed, eachFed, loadOf, othersLoad, returnsAfterSelfStart, clearOf, seesOwnZone, backsUp, withinDelays, gradedAbove}
 use Rattle.settle.specs.Fed.{reach, excess, shortfall, earliest, gathered, clearOfAll, backsUpAll, pickupBy, delayBy, settledBy}
 use Rattle.settle.specs.Settle.{meetsPickup, meetsDelay, outcomeOf, settled}
+use Rattle.settle.proofs.ConditionTheorems.{P4-exactly}
 use Rattle.settle.proofs.PickupLaws.{current-volts, load-bounded}
 
 -- what holds for each fed row
@@ -116,14 +117,13 @@ module _ (v : View) (a : AllBounded v) (k : Settings) (i : ℕ) (h : i < v .coun
       (λ backed.
       let m = le-maxTo (λ j. cond (fed v i j) (shortfall (v .row j)) 0) (v .count) j b in
       let s : shortfall (v .row j) ≡ reach - v .row j .far * v .row j .volts = rw backed in
-      let c : 12 * I * v .row i .volts ≤ 10 * (reach - gathered v k i .shortfall) = leb-true _ _ t in
+      let c = leb-true (12 * I * v .row i .volts) (10 * (reach - gathered v k i .shortfall)) t in
       le-leb (12 * I * v .row i .volts) (10 * v .row j .far * v .row j .volts)
       (omega (arith, mul-assoc 10 (v .row j .far) (v .row j .volts), far-to j b, counted-fed (shortfall (v .row j)) g))))
 
   backs-greatest :
       (I : ℕ) → I ≤ 100000000 → eachFed v i (λ j. backsUp (v .row i) (v .row j) I) ≡ true →
       12 * I * v .row i .volts ≤ 10 * (reach - gathered v k i .shortfall)
-  unfolding backsUp
   backs-greatest I b t =
       let most : 12 * I * v .row i .volts ≤ 600000000000000 = mul-le-mul (mul-le-mul-left 12 b) (a i h .volts-to) in
       ⊎-elim
@@ -131,8 +131,8 @@ module _ (v : View) (a : AllBounded v) (k : Settings) (i : ℕ) (h : i < v .coun
       (λ m.
       ⊎-elim
       (λ (backed : eqb (v .row (m .at) .backed) 1 ≡ true).
-      let c : 12 * I * v .row i .volts ≤ 10 * v .row (m .at) .far * v .row (m .at) .volts =
-      leb-true _ _ (implies _ _ (each-fed-at v i (λ j. backsUp (v .row i) (v .row j) I) t (m .at) (m .below) (m .counts)) backed) in
+      let sees = each-fed-at v i (λ j. backsUp (v .row i) (v .row j) I) t (m .at) (m .below) (m .counts) in
+      let c = P4-exactly (v .row i) (v .row (m .at)) I .0 sees (eqb-true (v .row (m .at) .backed) 1 backed) in
       let s : shortfall (v .row (m .at)) ≡ reach - v .row (m .at) .far * v .row (m .at) .volts = rw backed in
       omega (arith, mul-assoc 10 (v .row (m .at) .far) (v .row (m .at) .volts), m .is, far-to (m .at) (m .below)))
       (λ (backed : eqb (v .row (m .at) .backed) 1 ≡ false).

@@ -52,11 +52,11 @@ module _ (r : Row) (f : Fed) (a : Bounded r) where
 
   pub upper-fails : (x : ℕ) → 10 * r .far < 15 * x → false ≡ upper x
   unfolding seesOwnZone
-  upper-fails x h = rw (lt-leb (15 * x) (10 * r .far) h)
+  upper-fails x h = ap (λ (zone : Bool). zone && backsUpAll r f x) (sym (lt-leb (15 * x) (10 * r .far) h))
 
   pub upper-is : (x : ℕ) → 15 * x ≤ 10 * r .far → leb (12 * x * r .volts) (10 * (reach - f .shortfall)) ≡ upper x
   unfolding seesOwnZone backsUpAll
-  upper-is x h = rw (le-leb (15 * x) (10 * r .far) h)
+  upper-is x h = ap (λ (zone : Bool). zone && backsUpAll r f x) (sym (le-leb (15 * x) (10 * r .far) h))
 
   -- a lower pickup sees what a higher one sees
   upper-down : (x y : ℕ) → x ≤ y → upper y ≡ true → upper x ≡ true

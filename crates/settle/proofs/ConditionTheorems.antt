@@ -1,0 +1,113 @@
+-- The conditions of section 3, one by one: each test that the contracts cite passes exactly where the section's inequality holds.
+-- Assumes nothing.
+use mathlib.Core.Path.{_≡_}
+use mathlib.Core.Bool.{true, false, not, cond, _||_}
+use mathlib.Core.Logic.{_↔_, ⊎-elim}
+use Prim.Native.Nat.{ℕ, _+_, _*_, _≤_}
+use native.Mathlib.Omega.{arith}
+use lib.Dec.{leb, eqb}
+use borrow.Author.Tests.{le-leb, leb-true, eq-eqb, ne-eqb, eqb-true, eqb-false}
+use Rattle.fold.proofs.BoolLaws.{passes-or-fails, and-left, and-right, and-both, implies, implied}
+use Rattle.layout.specs.declared.CardRow.{CardRow}
+use Rattle.layout.specs.declared.Row.{Row}
+use Rattle.layout.specs.View.{View, Settings}
+use Rattle.settle.specs.Conditions.{fed, othersLoad, returnsAfterSelfStart, clearOf, seesOwnZone, backsUp}
+use Rattle.settle.specs.Conditions.{withinDelays, margin, gradedAbove, staysClear, seesNear}
+use Rattle.settle.specs.Inequalities.{StepAbove, SeesNear}
+
+-- a test of two numbers passes exactly where the one is at most the other
+at-most : (a b : ℕ) → (leb a b ≡ true) ↔ (a ≤ b)
+at-most a b = (leb-true a b, le-leb a b)
+
+pub P1-exactly : (r : Row) (I : ℕ) → (returnsAfterSelfStart r I ≡ true) ↔ (11 * r .selfstart * r .work ≤ 10 * I * r .returnfactor)
+unfolding returnsAfterSelfStart
+P1-exactly r I = at-most (11 * r .selfstart * r .work) (10 * I * r .returnfactor)
+
+pub P2-exactly :
+    (v : View) (k : Settings) (i j I : ℕ) → (clearOf v k i j I ≡ true) ↔
+    (11 * (k j .pickup * v .row j .volts + othersLoad v i j) ≤ 10 * I * v .row i .volts)
+unfolding clearOf
+P2-exactly v k i j I = at-most (11 * (k j .pickup * v .row j .volts + othersLoad v i j)) (10 * I * v .row i .volts)
+
+pub P3-exactly : (r : Row) (I : ℕ) → (seesOwnZone r I ≡ true) ↔ (15 * I ≤ 10 * r .far)
+unfolding seesOwnZone
+P3-exactly r I = at-most (15 * I) (10 * r .far)
+
+pub P4-exactly :
+    (r f : Row) (I : ℕ) → (backsUp r f I ≡ true) ↔ (f .backed ≡ 1 → 12 * I * r .volts ≤ 10 * f .far * f .volts)
+unfolding backsUp
+P4-exactly r f I = (
+  λ t b. leb-true (12 * I * r .volts) (10 * f .far * f .volts) (implies (eqb (f .backed) 1) _ t (eq-eqb (f .backed) 1 b)),
+  λ h. implied (eqb (f .backed) 1) _ (λ t. le-leb (12 * I * r .volts) (10 * f .far * f .volts) (h (eqb-true (f .backed) 1 t))),
+)
+
+pub D1-exactly : (r : Row) (t : ℕ) → (withinDelays r t ≡ true) ↔ ((r .floor ≤ t) × (t ≤ r .ceiling) × (r .kind ≡ 3 → 100 ≤ t))
+unfolding withinDelays
+D1-exactly r t = (
+  λ e.
+      let up = and-right (leb (r .floor) t) _ e in
+      let motor = and-right (leb t (r .ceiling)) (not (eqb (r .kind) 3) || leb 100 t) up in (
+        leb-true (r .floor) t (and-left (leb (r .floor) t) _ e),
+        leb-true t (r .ceiling) (and-left (leb t (r .ceiling)) _ up),
+        λ k. leb-true 100 t (implies (eqb (r .kind) 3) (leb 100 t) motor (eq-eqb (r .kind) 3 k)),
+      ),
+  λ h.
+      and-both (le-leb (r .floor) t (h .0))
+      (and-both (le-leb t (r .ceiling) (h .1)) (implied (eqb (r .kind) 3) (leb 100 t) (λ k. le-leb 100 t (h .2 (eqb-true (r .kind) 3 k))))),
+)
+
+-- the step for a device
+step-above : (d delay t : ℕ) → (delay + margin d ≤ t) ↔ StepAbove d delay t
+unfolding margin
+step-above d delay t = (to, from)
+  where
+    to : delay + cond (eqb d 1) 300 (cond (eqb d 2) 500 200) ≤ t → StepAbove d delay t
+    to h =
+        record {
+          microprocessor = λ e. rw (eq-eqb d 1 e) at h;
+          electromechanical = λ e. rw (ne-eqb d 1 (λ e′. omega arith), eq-eqb d 2 e) at h;
+          fast-breaker = λ n n′. rw (ne-eqb d 1 n, ne-eqb d 2 n′) at h;
+        }
+
+    from : StepAbove d delay t → delay + cond (eqb d 1) 300 (cond (eqb d 2) 500 200) ≤ t
+    from s =
+        ⊎-elim
+        (λ (e : eqb d 1 ≡ true). rw e (s .microprocessor (eqb-true d 1 e)))
+        (λ (e : eqb d 1 ≡ false).
+        ⊎-elim
+        (λ (e′ : eqb d 2 ≡ true). rw (e, e′) (s .electromechanical (eqb-true d 2 e′)))
+        (λ (e′ : eqb d 2 ≡ false). rw (e, e′) (s .fast-breaker (eqb-false d 1 e) (eqb-false d 2 e′)))
+        (passes-or-fails (eqb d 2)))
+        (passes-or-fails (eqb d 1))
+
+pub D2-exactly : (f : Row) (s : CardRow) (t : ℕ) → (gradedAbove f s t ≡ true) ↔ StepAbove (f .device) (s .delay) t
+unfolding gradedAbove
+D2-exactly f s t = (
+  λ e. step-above (f .device) (s .delay) t .0 (leb-true (s .delay + margin (f .device)) t e),
+  λ h. le-leb (s .delay + margin (f .device)) t (step-above (f .device) (s .delay) t .1 h),
+)
+
+pub clear-exactly : (r : Row) (C : ℕ) → (staysClear r C ≡ true) ↔ (r .factor * r .clear ≤ 1000 * C)
+unfolding staysClear
+clear-exactly r C = at-most (r .factor * r .clear) (1000 * C)
+
+pub near-exactly : (r : Row) (C : ℕ) → (seesNear r C ≡ true) ↔ SeesNear r C
+unfolding seesNear
+near-exactly r C = (to, from)
+  where
+    to : leb (cond (eqb (r .kind) 1) 12 20 * C) (10 * r .near) ≡ true → SeesNear r C
+    to t =
+        record {
+          line = λ e. leb-true (12 * C) (10 * r .near) (rw (eq-eqb (r .kind) 1 e) at t);
+          other = λ n. leb-true (20 * C) (10 * r .near) (rw (ne-eqb (r .kind) 1 n) at t);
+        }
+
+    from : SeesNear r C → leb (cond (eqb (r .kind) 1) 12 20 * C) (10 * r .near) ≡ true
+    from s =
+        ⊎-elim
+        (λ (e : eqb (r .kind) 1 ≡ true). rw e (le-leb (12 * C) (10 * r .near) (s .line (eqb-true (r .kind) 1 e))))
+        (λ (e : eqb (r .kind) 1 ≡ false). rw e (le-leb (20 * C) (10 * r .near) (s .other (eqb-false (r .kind) 1 e))))
+        (passes-or-fails (eqb (r .kind) 1))
+
+pub fed-exactly : (v : View) (i j : ℕ) → (fed v i j ≡ true) ↔ (v .row j .feeder ≡ i + 1)
+fed-exactly v i j = (eqb-true (v .row j .feeder) (i + 1), eq-eqb (v .row j .feeder) (i + 1))
