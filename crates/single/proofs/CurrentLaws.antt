@@ -4,7 +4,7 @@ use Prim.Native.Nat.{ℕ, zero, suc, _*_, _≤_, _<_}
 use native.Mathlib.Nat.{zero-mul, mul-one, zero-lt-suc}
 use native.Mathlib.Omega.{arith}
 use mathlib.Core.Path.{_≡_, refl, sym, ap, _∙_, subst}
-use mathlib.Core.Bool.{Bool, true, false, _&&_, cond, true≢false}
+use mathlib.Core.Bool.{Bool, true, false, cond, true≢false}
 use lib.IntN.{ℤ}
 use lib.Dec.{T, ltb}
 use lib.Pow.{pow-pos}
@@ -97,23 +97,3 @@ pub zero-refused : (to : Rounding) (s : Bool) (e : ℤ) (scale : ℕ) → curren
 unfolding currentOf
 zero-refused to true e scale = zero-mA to e scale
 zero-refused to false e scale = zero-mA to e scale
-
--- ---- so what is given is allowed
-
-abbrev pub InRange : Current → Type 0
-InRange (Milliamperes k) = T (allowed k)
-InRange Refused = Unit
-
-unless : (b : Bool) (w : ℕ) → InRange (cond b Refused (ifAllowed w))
-unless true w = tt
-unless false w = go (allowed w) refl
-  where
-    go : (b : Bool) → allowed w ≡ b → InRange (cond b (Milliamperes w) Refused)
-    go true e = passes (allowed w) e
-    go false e = tt
-
-pub current-in-range : (to : Rounding) (x : Float) (scale : ℕ) → InRange (currentOf to x scale)
-unfolding currentOf
-current-in-range to nan scale = tt
-current-in-range to (inf s) scale = tt
-current-in-range to (fin s m e) scale = unless (s && ltb 0 m) (wholeOf to (m * up e * scale) (down e))

@@ -1,3 +1,4 @@
+pub mod Cases
 pub mod CurrentLaws
 pub mod RoundLaws
 pub mod ScaleLaws

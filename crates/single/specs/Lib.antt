@@ -1,3 +1,4 @@
+pub mod Cases
 pub mod Exact
 pub mod SingleCurrent
 pub mod Steps

@@ -1,2 +1,3 @@
 -- The theorems on the study's currents, to be read first.
+pub mod Demand1
 pub mod Theorems

@@ -1,24 +1,19 @@
 -- The public theorems on the study's currents [01 §5], over the definitions that `convert` is proved against. Each is proved by citing a law, or by
--- computing.
+-- computing. What a whole study gets, exactly when: Demand1.antt.
 use Prim.Native.Nat.{ℕ, suc, _*_, _^_, _≤_, _<_}
 use native.Mathlib.Nat.{mul-one}
 use mathlib.Core.Path.{_≡_, refl, sym, _∙_, subst}
-use mathlib.Core.Logic.{_⊎_, inl, inr}
-use mathlib.Core.Bool.{Bool, true, false, _&&_, cond}
+use mathlib.Core.Bool.{Bool, true, false}
 use mathlib.Core.List.{[], _∷_, map}
 use lib.IntN.{ℤ, pos, negsuc}
-use lib.Dec.{T, lit≤}
 use lib.Ieee.{Float, inf, fin, binary32, ofBits, nanBits}
 use lib.Ieee.Bits.{nanBits-is}
 use Rattle.single.specs.declared.Rounding.{Rounding}
 use Rattle.single.specs.declared.Rounding.the-variants.{Up, Down}
-use Rattle.single.specs.declared.Current.{Current}
 use Rattle.single.specs.declared.Current.the-variants.{Milliamperes, Refused}
-use Rattle.study.specs.declared.Study.{Study}
-use Rattle.study.specs.declared.Converted.{Converted}
 use Rattle.single.specs.Exact.{wholeOf, Rounds}
-use Rattle.single.specs.SingleCurrent.{allowed, currentOf, Gives}
-use Rattle.study.specs.Currents.{ratedFits, readingOf, refusedAt, answerOf, convertOf}
+use Rattle.single.specs.SingleCurrent.{currentOf, Gives}
+use Rattle.study.specs.Currents.{convertOf}
 use Rattle.study.specs.Cases.{Case, table}
 use Rattle.single.proofs.RoundLaws as round
 use Rattle.single.proofs.CurrentLaws as current
@@ -70,30 +65,6 @@ negative-refused = current.negative-refused
 
 pub zero-refused : (to : Rounding) (s : Bool) (e : ℤ) (scale : ℕ) → currentOf to (fin s 0 e) scale ≡ Refused
 zero-refused = current.zero-refused
-
--- ---- number 0 comes with place 0 and two allowed currents, and the only other number is 8, with a place up to 2 and both currents 0
-
-abbrev Done : Converted → Type 0
-Done r = (r .number ≡ 0) × (r .place ≡ 0) × T (allowed (r .greatest)) × T (allowed (r .least))
-
-abbrev Refusal : Converted → Type 0
-Refusal r = (r .number ≡ 8) × (r .place ≤ 2) × (r .greatest ≡ 0) × (r .least ≡ 0)
-
-abbrev Answered : Converted → Type 0
-Answered r = Done r ⊎ Refusal r
-
-answered-by : (fits : Bool) (g l : Current) → current.InRange g → current.InRange l → Answered (cond fits (answerOf g l) (refusedAt 0))
-answered-by true (Milliamperes g) (Milliamperes l) a b = inl (refl, refl, a, b)
-answered-by true (Milliamperes g) Refused a b = inr (refl, lit≤ tt, refl, refl)
-answered-by true Refused l a b = inr (refl, lit≤ tt, refl, refl)
-answered-by false g l a b = inr (refl, lit≤ tt, refl, refl)
-
-pub answered : (s : Study) → Answered (convertOf s)
-unfolding convertOf
-answered s =
-    answered-by (ratedFits (s .greatest) && ratedFits (s .least)) (readingOf Up (s .greatest)) (readingOf Down (s .least))
-    (current.current-in-range Up _ _)
-    (current.current-in-range Down _ _)
 
 -- ---- the table of worked cases, the examples of section 5 among them
 

@@ -1,3 +1,4 @@
--- The meaning of the study's currents: what the contracts cite, and worked cases. Definitions only.
+-- The meaning of the study's currents: what the contracts cite, what the theorems hold it to, and worked cases. Definitions only.
 pub mod Currents
+pub mod Gets
 pub mod Cases
