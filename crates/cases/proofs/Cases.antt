@@ -11,15 +11,16 @@ use Rattle.settle.specs.Conditions.{returnsAfterSelfStart, clearOf, seesOwnZone
 use Rattle.settle.specs.Settle.{meetsPickup, meetsDelay, fitting, cutoffOf, printed, shown, outcomeOf, settled}
 use Rattle.rowwise.specs.WorkOut.{onSettled, workOut, upFrom, onPassed}
 use Rattle.calculate.specs.Whole.{ending, calculation, whole}
-use Rattle.cases.specs.Cases.{Starred, comes, starred, table, twoRows, twoCard, blank, firstRow, underOne, pickups}
+use Rattle.cases.specs.Case.{Worked, comes, worked}
+use Rattle.cases.specs.Cases.{table, twoRows, twoCard, blank, firstRow, underOne, pickups}
 use Rattle.path.specs.Path.{pathFrom, pathOf}
 use Rattle.change.specs.Edit.{putList, editRight, editTest}
 use Rattle.change.specs.Replace.{reworked, outcome, replaced}
 use Rattle.path.specs.CardTest.{cardRight, cardAnswer, cardTest}
 
-pub cases : map (λ (s : Starred). comes (s .case)) table ≡ map (λ (s : Starred). s .is) table
+pub cases : map (λ (w : Worked). comes (w .case)) table ≡ map (λ (w : Worked). w .is) table
 unfolding first sumTo every count valueAt leastOn sizeTest rowsTest inBounds fieldRight faultAfter rowFault feedsRight treeAnswer treeTest fieldAnswer
     returnsAfterSelfStart clearOf seesOwnZone backsUp withinDelays margin gradedAbove staysClear seesNear meetsPickup meetsDelay fitting cutoffOf
-    printed shown outcomeOf settled putCardRow onSettled workOut upFrom ending calculation whole comes starred table twoRows twoCard blank
+    printed shown outcomeOf settled putCardRow onSettled workOut upFrom ending calculation whole comes worked table twoRows twoCard blank
     firstRow underOne pickups pathFrom pathOf putList editRight editTest cardRight cardAnswer cardTest onPassed reworked outcome replaced
 cases = refl

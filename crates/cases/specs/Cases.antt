@@ -3,15 +3,12 @@ use mathlib.Core.Bool.{Bool, true, false}
 use mathlib.Core.List.{List, [], _∷_}
 use Prim.Native.Nat.{ℕ, zero, suc, _+_}
 use lib.ListN.{set}
-use Rattle.answers.specs.declared.Answer.{Answer}
-use Rattle.answers.specs.declared.Answer.the-variants.{Done, Unsettled}
-use Rattle.answers.specs.declared.Reason.the-variants.{Pickup, Delay}
 use Rattle.layout.specs.Counts.{fieldCount}
-use Rattle.layout.specs.Fields.{atFar, atNear, atCeiling}
-use Rattle.layout.specs.View.{viewOf, Settings}
-use Rattle.settle.specs.Conditions.{eachFed, clearOf}
-use Rattle.calculate.specs.Whole.{whole}
-use Rattle.change.specs.Replace.{replaced}
+use Rattle.layout.specs.Fields.{atWork, atFar, atNear, atCeiling}
+use Rattle.layout.specs.View.{Settings}
+use Rattle.cases.specs.Case.{Worked, worked}
+use Rattle.cases.specs.Case.Case.{calculates, replaces, clears}
+use Rattle.cases.specs.Case.Comes.{calculated, replacing, clear}
 
 -- the list of section 6: F1, fed by IN
 unfoldable pub twoRows : List ℕ
@@ -25,7 +22,10 @@ twoRows =
 unfoldable pub firstRow : ℕ → ℕ → List ℕ
 firstRow work far = 1 ∷ 2 ∷ 1 ∷ 35000 ∷ work ∷ 1500 ∷ 935 ∷ far ∷ 1000000 ∷ 1800000 ∷ 1300 ∷ 50000 ∷ 5000000 ∷ 1000 ∷ 1 ∷ 1900 ∷ 5000 ∷ 1 ∷ []
 
--- fields of row 2 in that list, by their place in it: far, near and ceiling
+-- fields by their place in that list: work of row 1; far, near and ceiling of row 2
+abbrev pub work1 : ℕ
+work1 = atWork
+
 abbrev pub far2 : ℕ
 far2 = fieldCount + atFar
 
@@ -48,50 +48,39 @@ unfoldable pub pickups : ℕ → ℕ → Settings
 pickups a b zero = record { pickup = a; delay = 0; cutoff = 0 }
 pickups a b (suc j) = record { pickup = b; delay = 0; cutoff = 0 }
 
--- a case: a list calculated, a row replaced on a list and its card, or a pickup held against P2
-pub data Case : Type 0 where
-  calculates : List ℕ → Case
-  replaces : List ℕ → List ℕ → ℕ → List ℕ → Case
-  clears : ℕ → ℕ → ℕ → Case
-
--- what it comes to: an answer with the card, or whether the pickup stays clear
-pub data Comes : Type 0 where
-  answers : Answer → List ℕ → Comes
-  clear : Bool → Comes
-
 unfoldable pub blank : List ℕ
 blank = 0 ∷ 0 ∷ 0 ∷ 0 ∷ 0 ∷ 0 ∷ []
-
-unfoldable pub comes : Case → Comes
-comes (calculates l) = answers (whole l blank .answer) (whole l blank .card)
-comes (replaces l c place row) = answers (replaced l c place row .answer) (replaced l c place row .card)
-comes (clears a b I) = clear (eachFed (viewOf underOne) 2 (λ j. clearOf (viewOf underOne) (pickups a b) 2 j I))
-
--- a case with what document 01 says of it
-pub record Starred : Type 0 where
-  pub case : Case
-  pub is : Comes
-
-unfoldable pub starred : Case → Comes → Starred
-starred c w = record { case = c; is = w }
 
 -- the card of the list of section 6
 unfoldable pub twoCard : List ℕ
 twoCard = 318000 ∷ 1900 ∷ 1300000 ∷ 360000 ∷ 2200 ∷ 4290000 ∷ []
 
-unfoldable pub table : List Starred
+-- the list done with this card, or refused with this number at this row
+abbrev done : List ℕ → List ℕ → Worked
+done l c = worked (calculates l blank) (calculated (0 ∷ 0 ∷ 0 ∷ []) c)
+
+abbrev refused : List ℕ → ℕ → ℕ → Worked
+refused l number row = worked (calculates l blank) (calculated (number ∷ row ∷ 0 ∷ []) blank)
+
+-- pickup I of the third row against P2, the pickups below being a and b
+abbrev heldTo : ℕ → ℕ → ℕ → Bool → Worked
+heldTo a b I met = worked (clears underOne (pickups a b) 2 I) (clear met)
+
+unfoldable pub table : List Worked
 table =
-    starred (calculates twoRows) (answers Done twoCard) ∷
-    starred (calculates (set twoRows far2 540000)) (answers Done twoCard) ∷
-    starred (calculates (set twoRows far2 539999)) (answers (Unsettled 2 Pickup) blank) ∷
-    starred (calculates (set twoRows ceiling2 2200)) (answers Done twoCard) ∷
-    starred (calculates (set twoRows ceiling2 2199)) (answers (Unsettled 2 Delay) blank) ∷
-    starred (calculates (set twoRows near2 5148000)) (answers Done twoCard) ∷
-    starred (calculates (set twoRows near2 5147999)) (answers Done (318000 ∷ 1900 ∷ 1300000 ∷ 360000 ∷ 2200 ∷ 0 ∷ [])) ∷
-    starred (replaces twoRows twoCard 1 (firstRow 190000 900000)) (answers Done (336000 ∷ 1900 ∷ 1300000 ∷ 370000 ∷ 2200 ∷ 4290000 ∷ [])) ∷
-    starred (replaces twoRows twoCard 1 (firstRow 180000 431000)) (answers (Unsettled 1 Pickup) twoCard) ∷
-    starred (clears 100000 99000 209000) (clear true) ∷
-    starred (clears 100000 99000 208999) (clear false) ∷
-    starred (clears 100000 101000 209000) (clear true) ∷
-    starred (clears 100000 101000 208999) (clear false) ∷
-    starred (clears 100000 101000 122100) (clear false) ∷ []
+    done twoRows twoCard
+    ∷ done (set twoRows far2 540000) twoCard
+    ∷ refused (set twoRows far2 539999) 6 2
+    ∷ done (set twoRows ceiling2 2200) twoCard
+    ∷ refused (set twoRows ceiling2 2199) 7 2
+    ∷ done (set twoRows near2 5148000) twoCard
+    ∷ done (set twoRows near2 5147999) (318000 ∷ 1900 ∷ 1300000 ∷ 360000 ∷ 2200 ∷ 0 ∷ [])
+    ∷ worked (replaces twoRows twoCard 1 (firstRow 190000 900000))
+    (replacing (0 ∷ 0 ∷ 0 ∷ []) (set twoRows work1 190000) (336000 ∷ 1900 ∷ 1300000 ∷ 370000 ∷ 2200 ∷ 4290000 ∷ []))
+    ∷ worked (replaces twoRows twoCard 1 (firstRow 180000 431000)) (replacing (6 ∷ 1 ∷ 0 ∷ []) twoRows twoCard)
+    ∷ heldTo 100000 99000 209000 true
+    ∷ heldTo 100000 99000 208999 false
+    ∷ heldTo 100000 101000 209000 true
+    ∷ heldTo 100000 101000 208999 false
+    ∷ heldTo 100000 101000 122100 false
+    ∷ []

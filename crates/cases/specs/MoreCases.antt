@@ -1,0 +1,195 @@
+-- [01 §2, §3, §4] Worked cases beside the starred ones: kinds 2 and 3, devices 2 and 3, unequal volts, every refusal number, and
+-- pairs of faults that show the order. The numbers were worked out from document 01 by hand. Rows, fields and places are
+-- counted from 1, as there. Definitions only.
+use mathlib.Core.List.{List, [], _∷_, _++_}
+use Prim.Native.Nat.{ℕ, _+_, _-_, _*_}
+use lib.ListN.{set, take, drop, replicate}
+use Rattle.layout.specs.Counts.{fieldCount}
+use Rattle.cases.specs.Case.{Worked, worked}
+use Rattle.cases.specs.Case.Case.{calculates, replaces}
+use Rattle.cases.specs.Case.Comes.{calculated, replacing}
+
+-- A line (10,000 V, device 2, backed) and a motor (6,000 V, device 3, not backed), both fed by a transformer (25,000 V).
+-- Row 3 by P2 above row 2: 10 × 152,900 × 25,000 = 11 × (412,500 × 6,000 + 100,000 × 10,000); above row 1 less. By P3:
+-- 10 × 229,350 = 15 × 152,900. By P4: 10 × 458,700 × 10,000 = 12 × 152,900 × 25,000. By D2: 0 + 500, not 100 + 200.
+unfoldable pub plant : List ℕ
+plant =
+    1 ∷ 3 ∷ 1 ∷ 10000 ∷ 100000 ∷ 1500 ∷ 1000 ∷ 458700 ∷ 500000 ∷ 726000 ∷ 1200 ∷ 5000 ∷ 1005000 ∷ 10000 ∷ 2 ∷ 0 ∷ 1000 ∷ 1 ∷
+    2 ∷ 3 ∷ 3 ∷ 6000 ∷ 50000 ∷ 6000 ∷ 800 ∷ 700000 ∷ 900000 ∷ 1825000 ∷ 1000 ∷ 12500 ∷ 1012500 ∷ 100000 ∷ 3 ∷ 0 ∷ 100 ∷ 0 ∷
+    3 ∷ 0 ∷ 2 ∷ 25000 ∷ 60000 ∷ 1200 ∷ 1000 ∷ 229350 ∷ 150000 ∷ 605800 ∷ 2000 ∷ 2900 ∷ 402900 ∷ 10000 ∷ 1 ∷ 0 ∷ 500 ∷ 0 ∷ []
+
+-- the list with number x in field k of row n; row n of a list
+abbrev with : List ℕ → ℕ → ℕ → ℕ → List ℕ
+with l n k x = set l ((n - 1) * fieldCount + (k - 1)) x
+
+abbrev row : ℕ → List ℕ → List ℕ
+row n l = take fieldCount (drop ((n - 1) * fieldCount) l)
+
+-- a card of three rows with one number more, as lent and as the list leaves it
+unfoldable pub lent : List ℕ
+lent = 1 ∷ 2 ∷ 3 ∷ 4 ∷ 5 ∷ 6 ∷ 7 ∷ 8 ∷ 9 ∷ 77 ∷ []
+
+-- the rows of the card: line, motor and transformer, the last by its pickup, delay and cutoff
+abbrev cardOf : ℕ → ℕ → ℕ → List ℕ
+cardOf I t C = 165000 ∷ 0 ∷ 605000 ∷ 412500 ∷ 100 ∷ 912500 ∷ I ∷ t ∷ C ∷ 77 ∷ []
+
+unfoldable pub plantCard : List ℕ
+plantCard = cardOf 152900 500 302900
+
+-- a whole calculation: done with a card, or refused with three numbers
+abbrev done : List ℕ → List ℕ → Worked
+done l c = worked (calculates l lent) (calculated (0 ∷ 0 ∷ 0 ∷ []) c)
+
+abbrev refused : List ℕ → ℕ → ℕ → ℕ → Worked
+refused l number place field = worked (calculates l lent) (calculated (number ∷ place ∷ field ∷ []) lent)
+
+-- a replacement on the plant and a card: done with a list and a card, or refused with three numbers
+abbrev replacedBy : List ℕ → ℕ → List ℕ → List ℕ → List ℕ → Worked
+replacedBy c place new l′ c′ = worked (replaces plant c place new) (replacing (0 ∷ 0 ∷ 0 ∷ []) l′ c′)
+
+abbrev kept : List ℕ → ℕ → List ℕ → ℕ → ℕ → ℕ → Worked
+kept c place new number at field = worked (replaces plant c place new) (replacing (number ∷ at ∷ field ∷ []) plant c)
+
+-- conditions at equality and one off, in a whole calculation
+unfoldable pub conditions : List Worked
+conditions =
+    done plant plantCard
+    -- P2: 152,899 is not enough, and the next pickup offered is 162,899
+    ∷ done (with (with (with plant 3 12 2899) 3 8 300000) 1 8 500000) (cardOf 162899 500 302899)
+    -- P3 and P4 one off; the motor backed too, and one off
+    ∷ refused (with plant 3 8 229349) 6 3 0
+    ∷ refused (with plant 1 8 458699) 6 3 0
+    ∷ done (with (with plant 2 18 1) 2 8 764500) plantCard
+    ∷ refused (with (with plant 2 18 1) 2 8 764499) 6 3 0
+    -- the line not backed needs no such far
+    ∷ done (with (with plant 1 18 0) 1 8 458699) plantCard
+    -- D2: the devices of the fed rows
+    ∷ refused (with plant 3 17 499) 7 3 0
+    ∷ done (with (with plant 1 15 1) 3 17 300) (cardOf 152900 300 302900)
+    ∷ refused (with (with plant 1 15 1) 3 17 299) 7 3 0
+    ∷ done (with (with plant 2 15 2) 3 17 600) (cardOf 152900 600 302900)
+    -- D1: a motor's 100
+    ∷ refused (with plant 2 17 99) 7 2 0
+    -- the cutoff of the line, the motor and the transformer one off
+    ∷ done (with plant 1 10 725999) (165000 ∷ 0 ∷ 0 ∷ 412500 ∷ 100 ∷ 912500 ∷ 152900 ∷ 500 ∷ 302900 ∷ 77 ∷ [])
+    ∷ done (with plant 2 10 1824999) (165000 ∷ 0 ∷ 605000 ∷ 412500 ∷ 100 ∷ 0 ∷ 152900 ∷ 500 ∷ 302900 ∷ 77 ∷ [])
+    ∷ done (with plant 3 10 605799) (cardOf 152900 500 0)
+    -- 6 and 7 in one row; 7 in row 1 before 6 in row 3
+    ∷ refused (with (with plant 3 8 229349) 3 17 499) 6 3 0
+    ∷ refused (with (with plant 3 8 229349) 1 16 1001) 7 1 0
+    ∷ []
+
+-- 2, 3, 4 and 5, and their order
+unfoldable pub faults : List Worked
+faults =
+    refused [] 2 0 0
+    ∷ refused (drop 1 plant) 2 0 0
+    ∷ refused (0 ∷ plant) 2 0 0
+    -- 257 rows; 256 are as many as are taken, with room for 3 numbers each: the first field at fault is row 1's volts
+    ∷ refused (replicate (257 * fieldCount) 1) 2 0 0
+    ∷ worked (calculates (replicate (256 * fieldCount) 1) (replicate 767 0)) (calculated (3 ∷ 0 ∷ 0 ∷ []) (replicate 767 0))
+    ∷ worked (calculates (replicate (256 * fieldCount) 1) (replicate 768 0)) (calculated (4 ∷ 1 ∷ 4 ∷ []) (replicate 768 0))
+    -- 2 before 3, and 3 before 4: no room for three rows
+    ∷ worked (calculates (drop 1 plant) (take 8 lent)) (calculated (2 ∷ 0 ∷ 0 ∷ []) (take 8 lent))
+    ∷ worked (calculates plant (take 8 lent)) (calculated (3 ∷ 0 ∷ 0 ∷ []) (take 8 lent))
+    ∷ worked (calculates (with plant 1 3 4) (take 8 lent)) (calculated (3 ∷ 0 ∷ 0 ∷ []) (take 8 lent))
+    ∷ worked (calculates plant (take 9 lent)) (calculated (0 ∷ 0 ∷ 0 ∷ []) (take 9 plantCard))
+    -- low above high is field 12, after the fields' own ranges
+    ∷ refused (with plant 2 12 1012501) 4 2 12
+    ∷ refused (with (with plant 2 12 1012501) 2 18 2) 4 2 18
+    ∷ refused (with (with plant 2 12 1012501) 2 11 999) 4 2 11
+    -- 4 over all rows before 5: fields in row 3 at fault, and the motor of row 2 feeding row 1; the first row, the first field
+    ∷ refused (with (with plant 1 2 2) 3 18 2) 4 3 18
+    ∷ refused (with (with (with plant 3 3 4) 2 18 2) 2 15 4) 4 2 15
+    -- 5: fed by a motor, by itself, by a row before it, by no row of the list, by the source; the last one fed by a row
+    ∷ refused (with plant 1 2 2) 5 1 0
+    ∷ refused (with plant 3 3 3) 5 1 0
+    ∷ refused (with plant 2 2 2) 5 2 0
+    ∷ refused (with plant 2 2 1) 5 2 0
+    ∷ refused (with plant 1 2 4) 5 1 0
+    ∷ refused (with plant 2 2 0) 5 2 0
+    ∷ refused (with plant 3 2 1) 5 3 0
+    -- 5 before 6 and 7: row 1 without a pickup
+    ∷ refused (with (with plant 2 2 0) 1 8 1) 5 2 0
+    ∷ refused (with plant 1 8 1) 6 1 0
+    ∷ []
+
+-- each field below its least number and above its greatest
+abbrev outside : ℕ → ℕ → Worked
+outside k x = refused (with plant 1 k x) 4 1 k
+
+unfoldable pub ranges : List Worked
+ranges =
+    outside 1 0 ∷ outside 1 2
+    ∷ outside 2 257
+    ∷ outside 3 0 ∷ outside 3 4
+    ∷ outside 4 99 ∷ outside 4 500001
+    ∷ outside 5 0 ∷ outside 5 100000001
+    ∷ outside 6 999 ∷ outside 6 10001
+    ∷ outside 7 799 ∷ outside 7 1001
+    ∷ outside 8 0 ∷ outside 8 100000001
+    ∷ outside 9 0 ∷ outside 9 100000001
+    ∷ outside 10 0 ∷ outside 10 100000001
+    ∷ outside 11 999 ∷ outside 11 2001
+    ∷ outside 12 0 ∷ outside 12 100000001
+    ∷ outside 13 0 ∷ outside 13 100000001
+    ∷ outside 14 0 ∷ outside 14 100000001
+    ∷ outside 15 0 ∷ outside 15 4
+    ∷ outside 16 100001
+    ∷ outside 17 100001
+    ∷ outside 18 2
+    -- every field at its least number, and every field but the first two at its greatest: in range, and no pickup
+    ∷ refused (1 ∷ 0 ∷ 1 ∷ 100 ∷ 1 ∷ 1000 ∷ 800 ∷ 1 ∷ 1 ∷ 1 ∷ 1000 ∷ 1 ∷ 1 ∷ 1 ∷ 1 ∷ 0 ∷ 0 ∷ 0 ∷ []) 6 1 0
+    ∷ refused
+    (1 ∷ 0 ∷ 3 ∷ 500000 ∷ 100000000 ∷ 10000 ∷ 1000 ∷ 100000000 ∷ 100000000 ∷ 100000000 ∷ 2000 ∷ 100000000 ∷ 100000000 ∷ 100000000 ∷
+    3 ∷ 100000 ∷ 100000 ∷ 1 ∷ []) 6 1 0
+    ∷ []
+
+-- replacements: what they leave, and every refusal in its order
+unfoldable pub replacements : List Worked
+replacements =
+    -- the line with another far: its own card row stays, and the transformer is settled anew
+    replacedBy plantCard 1 (row 1 (with plant 1 8 500000)) (with plant 1 8 500000) plantCard
+    ∷ kept plantCard 1 (row 1 (with plant 1 8 458699)) 6 3 0
+    -- the transformer by itself
+    ∷ replacedBy plantCard 3 (row 3 (with plant 3 16 500)) (with plant 3 16 500) plantCard
+    ∷ replacedBy plantCard 3 (row 3 (with plant 3 10 605799)) (with plant 3 10 605799) (cardOf 152900 500 0)
+    -- a card that does not belong to the list: the motor's row is read as it is found, those of the path are not read. P2:
+    -- 11 × (300,000 × 6,000 + 100,000 × 10,000) / (10 × 25,000) = 123,200, so 132,900
+    ∷ replacedBy (9 ∷ 9 ∷ 9 ∷ 300000 ∷ 50 ∷ 0 ∷ 9 ∷ 9 ∷ 9 ∷ 77 ∷ []) 1 (row 1 plant) plant
+    (165000 ∷ 0 ∷ 605000 ∷ 300000 ∷ 50 ∷ 0 ∷ 132900 ∷ 500 ∷ 302900 ∷ 77 ∷ [])
+    -- 2 and 3
+    ∷ worked (replaces (drop 1 plant) plantCard 1 (row 1 plant)) (replacing (2 ∷ 0 ∷ 0 ∷ []) (drop 1 plant) plantCard)
+    ∷ kept (take 8 plantCard) 0 (row 1 plant) 3 0 0
+    -- 10: the place, the new row's length, its field 1, its field 2; before 4
+    ∷ kept plantCard 0 (row 1 plant) 10 0 0
+    ∷ kept plantCard 4 (row 3 plant) 10 0 0
+    ∷ kept plantCard 1 (take 17 plant) 10 0 0
+    ∷ kept plantCard 1 (take 19 plant) 10 0 0
+    ∷ kept plantCard 2 (row 1 plant) 10 0 0
+    ∷ kept plantCard 1 (row 1 (with plant 1 2 2)) 10 0 0
+    ∷ kept plantCard 1 (row 1 (with (with plant 1 2 2) 1 3 4)) 10 0 0
+    -- 4 and 5 over the list as it would be; both before 9
+    ∷ kept plantCard 2 (row 2 (with plant 2 3 4)) 4 2 3
+    ∷ kept plantCard 3 (row 3 (with plant 3 3 3)) 5 1 0
+    ∷ kept (0 ∷ drop 1 plantCard) 2 (row 2 (with plant 2 3 4)) 4 2 3
+    ∷ kept (0 ∷ drop 1 plantCard) 3 (row 3 (with plant 3 3 3)) 5 1 0
+    -- 9: each column, on the path or off it, the first row; before 6 and 7
+    ∷ kept (set plantCard 3 0) 1 (row 1 plant) 9 2 0
+    ∷ kept (set plantCard 3 100000001) 1 (row 1 plant) 9 2 0
+    ∷ kept (set plantCard 4 100001) 1 (row 1 plant) 9 2 0
+    ∷ kept (set plantCard 5 100000001) 1 (row 1 plant) 9 2 0
+    ∷ kept (set (set plantCard 0 0) 3 0) 3 (row 3 plant) 9 1 0
+    ∷ kept (set plantCard 6 0) 1 (row 1 plant) 9 3 0
+    ∷ kept (set plantCard 3 0) 1 (row 1 (with plant 1 8 1)) 9 2 0
+    ∷ kept (set plantCard 3 0) 1 (row 1 (with plant 1 16 1001)) 9 2 0
+    -- 6 and 7 along the path, 6 first in a row; the motor is not on it
+    ∷ kept plantCard 1 (row 1 (with plant 1 8 1)) 6 1 0
+    ∷ kept plantCard 1 (row 1 (with plant 1 16 1001)) 7 1 0
+    ∷ kept plantCard 1 (row 1 (with (with plant 1 8 1) 1 16 1001)) 6 1 0
+    ∷ kept plantCard 2 (row 2 (with plant 2 17 99)) 7 2 0
+    ∷ kept plantCard 3 (row 3 (with plant 3 17 499)) 7 3 0
+    ∷ []
+
+unfoldable pub moreTable : List Worked
+moreTable = conditions ++ (faults ++ (ranges ++ replacements))
