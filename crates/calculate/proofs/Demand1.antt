@@ -2,7 +2,7 @@
 --     every-list-gets     each answer is given exactly where it is due (specs/Gets.antt), at the first place; none is given otherwise
 --     refused-card-kept   and then the lent card stands as it was lent (Demand2.antt)
 -- `whole` is the definition that the public entry's contract cites (specs/Whole.antt); it answers every list.
-use mathlib.Core.Path.{_≡_, refl, sym, ap, _∙_, subst}
+use mathlib.Core.Path.{_≡_, refl, sym, _∙_, subst}
 use mathlib.Core.Logic.{_↔_, ⊎-elim}
 use mathlib.Core.List.{List}
 use Prim.Native.Nat.{ℕ, zero, suc, _+_, _*_, _≤_, _<_}
@@ -11,7 +11,7 @@ use native.Mathlib.Omega.{arith}
 use lib.ListN.{length}
 use Rattle.fold.proofs.FoldLaws.{below-cases}
 use Rattle.answers.specs.declared.Answer.{Answer}
-use Rattle.answers.specs.declared.Answer.the-variants.{Done, Unsettled}
+use Rattle.answers.specs.declared.Answer.the-variants.{Unsettled}
 use Rattle.answers.specs.declared.Reason.{Reason}
 use Rattle.answers.specs.declared.Reason.the-variants.{Pickup, Delay}
 use Rattle.answers.specs.declared.Tested.{Tested}
@@ -22,19 +22,18 @@ use Rattle.layout.specs.Range.{AllBounded}
 use Rattle.layout.specs.View.{viewOf, Settings}
 use Rattle.layout.proofs.CardLaws.{putCardRow-length, putCardRow-own, putCardRow-other}
 use Rattle.rows.specs.InRange.{RightSize, HasRoom, InRange, Feeds, SizeGets, RowsGet}
-use Rattle.rows.specs.Tests.{sizeTest, rowsTest}
 use Rattle.rows.proofs.ExactLaws.{get-size, size-gets, size-rows, get-rows, rows-get}
 use Rattle.settle.specs.declared.Outcome.{Outcome}
-use Rattle.settle.specs.declared.Settled.the-variants.{Set, Unset}
+use Rattle.settle.specs.declared.Settled.the-variants.{Unset}
 use Rattle.settle.specs.Settle.{shown, settled}
+use Rattle.settle.specs.Inequalities.{RowSettled}
 use Rattle.settle.proofs.SameLaws.{settled-same, fed-below}
-use Rattle.rowwise.specs.WorkOut.{Worked, refused, onSettled, onPassed, workOut, upFrom}
+use Rattle.settle.proofs.SettledTheorems.{least-settled, no-pickup-exactly, no-delay-exactly}
+use Rattle.rowwise.specs.WorkOut.{refused, onSettled, onPassed, workOut, upFrom}
 use Rattle.calculate.specs.Gets.{Gets}
-use Rattle.calculate.specs.Meets.{LeastRow}
-use Rattle.calculate.specs.Refused.{RowSettled, UpTo, RefusedAt, PICKUP, DELAY}
+use Rattle.calculate.specs.Refused.{UpTo, RefusedAt, PICKUP, DELAY}
 use Rattle.calculate.specs.Whole.{ending, calculation, whole}
 use Rattle.calculate.proofs.Demand2.{accepted-meets, settings-accepted, done-or-refused}
-use Rattle.calculate.proofs.MeetsLaws.{least-settled, no-pickup-unset, no-delay-unset}
 
 -- rows below at their least settings k, and row i not settled above them: the calculation is refused there, on any card
 module _ (l : List ℕ) (b : Feeds l) (k : Settings) (i : ℕ) (h : i < rows l) (why : Reason) (unset : settled (viewOf l) k i ≡ Unset why)
@@ -86,13 +85,13 @@ module _ (l c : List ℕ) where
     calculated = rw (get-size l (length c) (SizeGets.passed s r), get-rows l (size-rows l s) (RowsGet.passed a b))
 
     below : (k : Settings) (i : ℕ) → UpTo (viewOf l) k i → (j : ℕ) → j < i → RowSettled (viewOf l) k j
-    below k i u j g = least-settled (viewOf l) bounded k j (omega (arith, u .is-row)) (u .rows-below j g)
+    below k i u j g = least-settled (viewOf l) k j (bounded j (omega (arith, u .is-row)) .step-from) (u .rows-below j g)
 
     refused-whole : {x : Answer} → RefusedAt (viewOf l) x → calculation l c ≡ refused x
     refused-whole (PICKUP k i u n) =
-        refuses l b k i (u .is-row) Pickup (no-pickup-unset (viewOf l) bounded k i (u .is-row) n) (below k i u) c r
+        refuses l b k i (u .is-row) Pickup (no-pickup-exactly (viewOf l) k i (bounded i (u .is-row) .step-from) .1 n) (below k i u) c r
     refused-whole (DELAY k i u p n) =
-        refuses l b k i (u .is-row) Delay (no-delay-unset (viewOf l) bounded k i (u .is-row) p n) (below k i u) c r
+        refuses l b k i (u .is-row) Delay (no-delay-exactly (viewOf l) k i (bounded i (u .is-row) .step-from) .1 (p, n)) (below k i u) c r
 
   get-whole : {x : Answer} → Gets l c x → whole l c .answer ≡ x
   unfolding whole ending onPassed

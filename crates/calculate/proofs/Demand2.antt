@@ -3,29 +3,23 @@
 --     settings-accepted       where some available settings meet them all, a card is given
 --     accepted-exactly        the two together
 --     no-lower-no-shorter     no other set that does has a lower pickup or a shorter delay in any row
---     cutoff-column           the cutoff column is section 3's; cutoff-fitted-exactly says when a cutoff is fitted
+--     cutoff-column           the cutoff column is section 3's, which `cutoff-exactly` of settle says by inequalities
 --     refused-names           any other list gets 6 or 7 at the first row that no pickup, or else no delay, fits
 --     past-the-card-kept, refused-card-kept      what stands in the lent card otherwise
 -- `whole` is the definition that the public entry's contract cites (specs/Whole.antt).
 use mathlib.Core.Path.{_≡_, refl, sym, ap, _∙_}
-use mathlib.Core.Bool.{true, false}
 use mathlib.Core.Logic.{_↔_, _⊎_, inl, inr, ⊎-elim}
 use mathlib.Core.List.{List}
 use Prim.Native.Nat.{ℕ, _+_, _*_, _≤_, _<_}
 use native.Mathlib.Omega.{arith}
 use lib.ListN.{length, drop}
-use Rattle.fold.specs.declared.Found.{Found}
-use Rattle.fold.specs.declared.Found.the-variants.{At, Nothing}
-use Rattle.fold.proofs.BoolLaws.{passes-or-fails, zero-not-one}
-use Rattle.grid.proofs.GridLaws.{Least, leastOn-least, leastOn-is}
+use Rattle.fold.proofs.BoolLaws.{zero-not-one}
 use Rattle.answers.specs.declared.Answer.{Answer}
 use Rattle.answers.specs.declared.Answer.the-variants.{Done, Unsettled}
 use Rattle.answers.specs.declared.Reason.{Reason}
 use Rattle.answers.specs.declared.Reason.the-variants.{Pickup, Delay}
 use Rattle.answers.specs.declared.Tested.{Tested}
 use Rattle.answers.specs.declared.Tested.the-variants.{Passed, Refused}
-use Rattle.layout.specs.declared.CardRow.{CardRow}
-use Rattle.layout.specs.declared.Row.{Row}
 use Rattle.layout.specs.Card.{cardRowAt}
 use Rattle.layout.specs.Counts.{columnCount}
 use Rattle.layout.specs.List.{rows, rowAt}
@@ -35,30 +29,26 @@ use Rattle.rows.specs.InRange.{RightSize, HasRoom, InRange, Feeds, SizeGets}
 use Rattle.rows.specs.Tests.{sizeTest, rowsTest}
 use Rattle.rows.proofs.InRangeLaws.{in-range-passes}
 use Rattle.rows.proofs.ExactLaws.{get-size, size-rows}
-use Rattle.settle.specs.declared.Cutoff.the-variants.{Fitted, NotFitted}
-use Rattle.settle.specs.Conditions.{staysClear, seesNear}
-use Rattle.settle.specs.Settle.{leastPickup, fitting, cutoffOf, printed, shown, settled}
-use Rattle.settle.proofs.OutcomeLaws.{outcome-set}
+use Rattle.settle.specs.Settle.{cutoffOf, printed}
+use Rattle.settle.specs.Inequalities.{LeastRow, RowSettled}
 use Rattle.settle.proofs.SameLaws.{fed-below}
+use Rattle.settle.proofs.SettledTheorems.{settled-least}
 use Rattle.rowwise.specs.WorkOut.{Worked, finished, refused, onPassed}
-use Rattle.calculate.specs.Meets.{LeastRow, PickupsMeet, DelaysMeet, Meets}
-use Rattle.calculate.specs.Refused.{RowSettled, UpTo, RefusedAt, PICKUP, DELAY}
+use Rattle.calculate.specs.Meets.{PickupsMeet, DelaysMeet, Meets}
+use Rattle.calculate.specs.Refused.{RefusedAt, PICKUP, DELAY}
 use Rattle.calculate.specs.Whole.{Result, ending, calculation, whole}
 use Rattle.calculate.proofs.FrameLaws.{calculation-keeps}
 use Rattle.calculate.proofs.LeastLaws.{pickups-under, pickup-fits, delays-under, delay-fits}
-use Rattle.calculate.proofs.MeetsLaws.{settled-meets, settled-least}
+use Rattle.calculate.proofs.MeetsLaws.{least-meets}
 use Rattle.calculate.proofs.RefusedLaws.{calculation-refused}
 use Rattle.calculate.proofs.SettledLaws.{calculation-settled}
 
--- no answer is two things at once, nor is a cutoff
+-- no answer is two things at once
 unsettled-not-done : {row : ℕ} {why : Reason} → Unsettled row why ≡ Done → ⊥
 unsettled-not-done e = zero-not-one cc
 
 pickup-not-delay : {row row′ : ℕ} → Unsettled row Pickup ≡ Unsettled row′ Delay → ⊥
 pickup-not-delay e = zero-not-one cc
-
-fitted-not : {C : ℕ} → Fitted C ≡ NotFitted → ⊥
-fitted-not e = zero-not-one cc
 
 module _ (l c : List ℕ) (size : RightSize l) (room : HasRoom l (length c)) (a : InRange l) (b : Feeds l) where
   v : View
@@ -107,11 +97,11 @@ module _ (l c : List ℕ) (size : RightSize l) (room : HasRoom l (length c)) (a 
 
   every-row-least : whole l c .answer ≡ Done → (j : ℕ) → j < rows l → LeastRow v card j
   unfolding v card
-  every-row-least e j h = settled-least v bounded card j h (every-row-settled e j h)
+  every-row-least e j h = settled-least v card j (bounded j h .step-from) (every-row-settled e j h)
 
   pub accepted-meets : whole l c .answer ≡ Done → Meets (viewOf l) (cardRowAt (whole l c .card))
   unfolding v card
-  accepted-meets e = settled-meets v bounded card (every-row-settled e)
+  accepted-meets e = least-meets v card (every-row-least e)
 
   -- pickups that meet P1 to P4: no row is refused with PICKUP, and none of the card's is higher
   module _ (k : Settings) (m : PickupsMeet (viewOf l) k) where
@@ -162,10 +152,8 @@ module _ (l c : List ℕ) (size : RightSize l) (room : HasRoom l (length c)) (a 
   accepted-exactly = (λ e. (cardRowAt (whole l c .card), accepted-meets e), λ s. settings-accepted (s .0) (s .1))
 
   pub cutoff-column : whole l c .answer ≡ Done → (i : ℕ) → i < rows l → cardRowAt (whole l c .card) i .cutoff ≡ printed (cutoffOf (rowAt l i))
-  unfolding settled shown v card
-  cutoff-column e i h =
-      let s = every-row-settled e i h in
-      ap (λ (k : CardRow). k .cutoff) (s .shows) ∙ ap printed (outcome-set (rowAt l i) _ _ (s .outcome) (s .settles) .cutoff-is)
+  unfolding v card
+  cutoff-column e i h = every-row-least e i h .cutoff
 
   pub done-or-refused : (whole l c .answer ≡ Done) ⊎ RefusedAt (viewOf l) (whole l c .answer)
   unfolding v
@@ -184,27 +172,6 @@ module _ (l c : List ℕ) (size : RightSize l) (room : HasRoom l (length c)) (a 
       by-cases : Ended → drop (rows l * columnCount) (whole l c .card) ≡ drop (rows l * columnCount) c
       by-cases (accepted d f) = calculation-keeps l c (whole l c .card) f .past-rows
       by-cases (refused-by x d z) = absurd (never-done z (sym d ∙ e))
-
--- the cutoff is fitted at C exactly where C is the least available value that stays clear, and sees its near fault
-pub cutoff-fitted-exactly :
-    (r : Row) (k : 0 < r .step) (C : ℕ) → (cutoffOf r ≡ Fitted C) ↔ (Least (r .low) (r .high) (r .step) k (staysClear r) C × (seesNear r C ≡ true))
-unfolding cutoffOf fitting
-cutoff-fitted-exactly r k C = (λ e. to (leastPickup r (staysClear r)) refl e, λ h. rw (leastOn-is _ _ _ k (staysClear r) C (h .0), h .1))
-  where
-    to :
-        (f : Found) → leastPickup r (staysClear r) ≡ f → fitting r f ≡ Fitted C → Least (r .low) (r .high) (r .step) k (staysClear r) C ×
-        (seesNear r C ≡ true)
-    to (At x) g e =
-        ⊎-elim
-        (λ (t : seesNear r x ≡ true).
-        let q : Fitted x ≡ Fitted C = rw t at e in
-        let s : x ≡ C = cc in
-        rw (← s) (leastOn-least _ _ _ k (staysClear r) x g, t))
-        (λ (t : seesNear r x ≡ false).
-        let q : NotFitted ≡ Fitted C = rw t at e in
-        absurd (fitted-not (sym q)))
-        (passes-or-fails (seesNear r x))
-    to Nothing g e = absurd (fitted-not (sym e))
 
 -- whatever is refused, the lent card is as it was lent
 kept-by :

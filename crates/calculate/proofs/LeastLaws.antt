@@ -13,7 +13,8 @@ use Rattle.fold.proofs.FoldLaws.{below-cases}
 use Rattle.layout.specs.View.{View, Settings}
 use Rattle.rowwise.specs.Working.{everyRow}
 use Rattle.settle.specs.Conditions.{fed}
-use Rattle.calculate.specs.Meets.{AvailableOn, PickupMet, DelayMet, NoPickup, NoDelay, LeastRow, PickupsMeet, DelaysMeet}
+use Rattle.settle.specs.Inequalities.{AvailableOn, PickupMet, DelayMet, NoPickup, NoDelay, LeastRow}
+use Rattle.calculate.specs.Meets.{PickupsMeet, DelaysMeet}
 use Rattle.calculate.proofs.MeetsLaws.{pickup-down, delay-down}
 
 -- fed rows stand below their feeder; the rows of `on` below n are at their least settings in k, and meet the conditions in k′

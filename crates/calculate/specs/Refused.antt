@@ -1,21 +1,11 @@
--- [01 §4] What a row is that is settled, and what a refusal by row says: the first row for which, the rows below at their least
+-- [01 §4] What a refusal by row says: the first row for which, the rows below at their least
 -- settings, no pickup fits, or a pickup and no delay. Definitions only.
-use mathlib.Core.Path.{_≡_}
 use Prim.Native.Nat.{ℕ, _+_, _<_}
 use Rattle.answers.specs.declared.Answer.{Answer}
 use Rattle.answers.specs.declared.Answer.the-variants.{Unsettled}
 use Rattle.answers.specs.declared.Reason.the-variants.{Pickup, Delay}
 use Rattle.layout.specs.View.{View, Settings}
-use Rattle.settle.specs.declared.Outcome.{Outcome}
-use Rattle.settle.specs.declared.Settled.the-variants.{Set}
-use Rattle.settle.specs.Settle.{shown, settled}
-use Rattle.calculate.specs.Meets.{SomePickup, NoPickup, NoDelay, LeastRow}
-
--- row j's settings are what settling it gives, the rows below as they are
-pub record RowSettled (v : View) (k : Settings) (j : ℕ) : Type 0 where
-  pub outcome : Outcome
-  pub settles : settled v k j ≡ Set outcome
-  pub shows : k j ≡ shown outcome
+use Rattle.settle.specs.Inequalities.{SomePickup, NoPickup, NoDelay, LeastRow}
 
 -- row i is next: the rows below it are at their least settings
 pub record UpTo (v : View) (k : Settings) (i : ℕ) : Type 0 where

@@ -14,25 +14,23 @@ use Rattle.answers.specs.declared.Answer.{Answer}
 use Rattle.answers.specs.declared.Answer.the-variants.{Done}
 use Rattle.answers.specs.declared.Tested.{Tested}
 use Rattle.answers.specs.declared.Tested.the-variants.{Passed, Refused}
-use Rattle.layout.specs.declared.CardRow.{CardRow}
 use Rattle.layout.specs.declared.Row.{Row}
 use Rattle.layout.specs.Card.{cardRowAt}
 use Rattle.layout.specs.Counts.{columnCount}
 use Rattle.layout.specs.List.{rows, rowAt}
 use Rattle.layout.specs.View.{viewOf}
-use Rattle.layout.specs.Range.{Bounded, AllBounded, CardRowInRange}
+use Rattle.layout.specs.Range.{Bounded, CardRowInRange}
 use Rattle.rows.specs.InRange.{InRange}
 use Rattle.rows.specs.Tests.{sizeTest, rowsTest}
 use Rattle.rows.proofs.InRangeLaws.{passed-feeds}
 use Rattle.rows.proofs.TestLaws.{size-passed}
 use Rattle.settle.specs.declared.Cutoff.the-variants.{Fitted, NotFitted}
 use Rattle.settle.specs.Conditions.{seesNear, staysClear}
-use Rattle.settle.specs.Settle.{leastPickup, fitting, cutoffOf, printed, shown, settled}
-use Rattle.settle.proofs.OutcomeLaws.{outcome-set}
+use Rattle.settle.specs.Settle.{leastPickup, fitting, cutoffOf, printed}
 use Rattle.rowwise.specs.WorkOut.{Worked, finished, refused, onPassed}
 use Rattle.calculate.specs.Whole.{Result, ending, calculation, whole}
 use Rattle.calculate.proofs.FrameLaws.{calculation-keeps}
-use Rattle.calculate.proofs.MeetsLaws.{pickup-least, delay-least}
+use Rattle.settle.proofs.SettledTheorems.{settled-least}
 use Rattle.calculate.proofs.SettledLaws.{Settles, calculation-settled}
 use Rattle.change.proofs.RefusalLaws.{Later, refuses-done, size-refuses, rows-later, work-later, passed-refused, passed-finished}
 
@@ -83,19 +81,15 @@ module _ (l : List ℕ) (a : InRange l) (c : List ℕ) (j : ℕ) (h : j < rows l
       by-cases Nothing e = omega arith
 
   pub settled-fits : CardRowInRange (cardRowAt c j)
-  unfolding settled shown
   settled-fits =
-      let all : AllBounded (viewOf l) = λ j h. a j h .bounded in
       let b = a j h .bounded in
-      let p = pickup-least (viewOf l) all (cardRowAt c) j h s .available in
-      let d = delay-least (viewOf l) all (cardRowAt c) j h s .available in
+      let m = settled-least (viewOf l) (cardRowAt c) j (b .step-from) s in
       let low : 1 ≤ rowAt l j .low = b .low-from in
-      let shows = ap (λ (k : CardRow). k .cutoff) (s .shows) in
       record {
-        pickup-from = omega (arith, p .on-grid);
-        pickup-to = le-trans (p .within) (b .high-to);
-        delay-to = le-trans (d .within) (b .ceiling-to);
-        cutoff-to = rw (shows, outcome-set (rowAt l j) _ _ (s .outcome) (s .settles) .cutoff-is) (cutoff-bounded (rowAt l j) b);
+        pickup-from = omega (arith, m .available .on-grid);
+        pickup-to = le-trans (m .available .within) (b .high-to);
+        delay-to = le-trans (m .delay .D1 .1) (b .ceiling-to);
+        cutoff-to = rw (m .cutoff) (cutoff-bounded (rowAt l j) b);
       }
 
 module _ (l c₀ c : List ℕ) (x : Accepts l c₀ c) where

@@ -30,8 +30,7 @@ use Rattle.settle.specs.Conditions.{fed}
 use Rattle.settle.specs.Settle.{shown, settled}
 use Rattle.settle.proofs.SameLaws.{fed-below}
 use Rattle.rowwise.specs.WorkOut.{Worked, finished, refused, onSettled, workOut}
-use Rattle.calculate.proofs.MeetsLaws.{settled-least}
-use Rattle.calculate.proofs.RefusedLaws.{no-pickup-fits, a-pickup-fits, no-delay-fits}
+use Rattle.settle.proofs.SettledTheorems.{settled-least, no-pickup-exactly, no-delay-exactly}
 use Rattle.calculate.proofs.SettledLaws.{Settles}
 use Rattle.path.specs.Path.{OnPath, pathOf, onPath}
 use Rattle.path.proofs.OnPathLaws.{on-path-exactly, off-path-exactly}
@@ -68,7 +67,7 @@ module _ (l : List ℕ) (a : AllBounded (viewOf l)) (b : Feeds l) (i : ℕ) (h :
         record {
           on-path = on-path-exactly l b i x h .0 on-next;
           off-path = λ j _ n. r .found j (off n);
-          rows-below = λ m p g. settled-least (viewOf l) a (cardRowAt c) m (omega (arith, r .within)) (r .below m (on p) g);
+          rows-below = λ m p g. settled-least (viewOf l) (cardRowAt c) m (a m (omega (arith, r .within)) .step-from) (r .below m (on p) g);
         }
 
     -- row x is not settled
@@ -78,10 +77,10 @@ module _ (l : List ℕ) (a : AllBounded (viewOf l)) (b : Feeds l) (i : ℕ) (h :
         by-reason : (why : Reason) → settled (viewOf l) (cardRowAt c) x ≡ Unset why → PathRefused l i c₀ (Unsettled (x + 1) why)
         by-reason Pickup e =
             PICKUP (cardRowAt c) x up-to
-            (no-pickup-fits (viewOf l) a (cardRowAt c) x (r .within) e)
+            (no-pickup-exactly (viewOf l) (cardRowAt c) x (a x (r .within) .step-from) .0 e)
         by-reason Delay e =
-            DELAY (cardRowAt c) x up-to (a-pickup-fits (viewOf l) a (cardRowAt c) x (r .within) e)
-            (no-delay-fits (viewOf l) a (cardRowAt c) x (r .within) e)
+            let d = no-delay-exactly (viewOf l) (cardRowAt c) x (a x (r .within) .step-from) .0 e in
+            DELAY (cardRowAt c) x up-to (d .0) (d .1)
 
     -- row x is settled, and put in
     module _ (o : Outcome) (e : settled (viewOf l) (cardRowAt c) x ≡ Set o) where

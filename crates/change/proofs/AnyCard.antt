@@ -29,9 +29,9 @@ use Rattle.rows.proofs.ExactLaws.{get-size, size-rows, get-rows}
 use Rattle.rowwise.specs.WorkOut.{Worked, onPassed, workOut}
 use Rattle.settle.specs.Settle.{cutoffOf, printed}
 use Rattle.settle.proofs.SameLaws.{fed-below}
-use Rattle.calculate.specs.Meets.{LeastRow}
+use Rattle.settle.specs.Inequalities.{LeastRow}
 use Rattle.calculate.proofs.LeastLaws.{pickups-under-on, delays-under-on}
-use Rattle.calculate.proofs.MeetsLaws.{settled-least}
+use Rattle.settle.proofs.SettledTheorems.{settled-least}
 use Rattle.path.specs.CardTest.{CardGets}
 use Rattle.path.specs.Path.{OnPath, pathOf, onPath}
 use Rattle.path.proofs.CardTestLaws.{get-card}
@@ -106,7 +106,7 @@ module _ (l c : List ℕ) (place : ℕ) (row : List ℕ) (p : Passes l c place r
       by-cases (Climbed.settled-all c′ found all) e =
           let q : replaced l c place row .card ≡ c′ = ap (λ (r : Replaced). r .card) e in
           done (ap (λ (r : Replaced). r .answer) e) (rw q found)
-          (λ j o. rw q (settled-least (viewOf l′) bounded (cardRowAt c′) j (on-within l′ (p .feeds) (place - 1) j is-row (on o)) (all j o)))
+          (λ j o. rw q (settled-least (viewOf l′) (cardRowAt c′) j (bounded j (on-within l′ (p .feeds) (place - 1) j is-row (on o)) .step-from) (all j o)))
       by-cases (Climbed.stopped x z) e = refused-by x (ap (λ (r : Replaced). r .answer) e) z
 
   -- a card row of the path, where it is done

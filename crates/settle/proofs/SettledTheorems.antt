@@ -1,9 +1,9 @@
 -- A row is settled, or refused with PICKUP or with DELAY, exactly as sections 3 and 4 say, and its cutoff is fitted exactly so. The
 -- step above 0 is section 2's. Read with specs/Inequalities.antt.
-use mathlib.Core.Path.{_≡_, refl, sym, _∙_, subst}
+use mathlib.Core.Path.{_≡_, refl, sym, ap, _∙_, subst}
 use mathlib.Core.Bool.{true, false}
 use mathlib.Core.Logic.{_↔_, ⊎-elim}
-use Prim.Native.Nat.{ℕ, _-_, _<_}
+use Prim.Native.Nat.{ℕ, _-_, _≤_, _<_}
 use native.Mathlib.Omega.{arith}
 use Rattle.fold.specs.declared.Found.{Found}
 use Rattle.fold.specs.declared.Found.the-variants.{At, Nothing}
@@ -11,16 +11,16 @@ use Rattle.fold.proofs.BoolLaws.{passes-or-fails, fails, not-both}
 use Rattle.grid.specs.Grid.{Available}
 use Rattle.grid.proofs.GridLaws.{leastOn-least, leastOn-nothing, leastOn-is, leastOn-none}
 use Rattle.answers.specs.declared.Reason.the-variants.{Pickup, Delay}
+use Rattle.layout.specs.declared.CardRow.{CardRow}
 use Rattle.layout.specs.declared.Row.{Row}
 use Rattle.layout.specs.View.{View, Settings}
 use Rattle.settle.specs.declared.Cutoff.{Cutoff}
 use Rattle.settle.specs.declared.Cutoff.the-variants.{NotFitted}
-use Rattle.settle.specs.declared.Outcome.{Outcome}
-use Rattle.settle.specs.declared.Settled.the-variants.{Set, Unset}
+use Rattle.settle.specs.declared.Settled.the-variants.{Unset}
 use Rattle.settle.specs.Conditions.{staysClear, seesNear}
-use Rattle.settle.specs.Inequalities.{DelayHolds, CutoffPickup, SeesNear, CutoffIs, LeastSettings, NoPickup, NoDelay}
+use Rattle.settle.specs.Inequalities.{CutoffPickup, SeesNear, CutoffIs, SomePickup, NoPickup, NoDelay, LeastRow, RowSettled}
 use Rattle.settle.specs.Inequalities.CutoffIs.{fitted, not-fitted}
-use Rattle.settle.specs.Settle.{meetsPickup, meetsDelay, leastPickup, leastDelay, cutoffOf, outcomeOf, settled}
+use Rattle.settle.specs.Settle.{meetsPickup, meetsDelay, leastPickup, leastDelay, cutoffOf, printed, shown, outcomeOf, settled}
 use Rattle.settle.proofs.ConditionTheorems.{clear-exactly, near-exactly}
 use Rattle.settle.proofs.MeetsTheorems.{pickup-exactly, delay-exactly}
 use Rattle.settle.proofs.OutcomeLaws.{cutoff-fitted, cutoff-blind, cutoff-none, outcome-set, outcome-no-pickup, outcome-no-delay}
@@ -30,7 +30,7 @@ module _ (r : Row) (p : 0 < r .step) where
   cutoff-pickup C e =
       let m = leastOn-least _ _ _ p (staysClear r) C e in
       record {
-        offered = m .available;
+        available = m .available;
         stays-clear = clear-exactly r C .0 (m .passes);
         least = λ x a h. m .least x a (clear-exactly r x .1 h);
       }
@@ -39,7 +39,7 @@ module _ (r : Row) (p : 0 < r .step) where
   pickup-of-cutoff C m =
       leastOn-is _ _ _ p (staysClear r) C
       (record {
-        available = m .offered;
+        available = m .available;
         passes = clear-exactly r C .1 (m .stays-clear);
         least = λ x a t. m .least x a (clear-exactly r x .0 t);
       })
@@ -65,7 +65,7 @@ module _ (r : Row) (p : 0 < r .step) where
           (passes-or-fails (seesNear r C))
       is Nothing e =
           subst (CutoffIs r) (cutoff-none r e)
-          (not-fitted (λ x m n. not-both (clear-exactly r x .1 (m .stays-clear)) (leastOn-nothing _ _ _ p (staysClear r) e x (m .offered))))
+          (not-fitted (λ x m n. not-both (clear-exactly r x .1 (m .stays-clear)) (leastOn-nothing _ _ _ p (staysClear r) e x (m .available))))
 
       none : (f : Found) → leastPickup r (staysClear r) ≡ f → ((C : ℕ) → CutoffPickup r C → SeesNear r C → ⊥) → cutoffOf r ≡ NotFitted
       none (At C) e n =
@@ -76,16 +76,17 @@ module _ (r : Row) (p : 0 < r .step) where
       so (fitted C m n) = sym (cutoff-fitted r C (pickup-of-cutoff C m) (near-exactly r C .1 n))
       so (not-fitted n) = none (leastPickup r (staysClear r)) refl n
 
-module _ (v : View) (k : Settings) (i : ℕ) (p : 0 < v .row i .step) where
-  -- a delay that D1 allows is one of floor, floor + 1, .. up to ceiling
-  offered-delay : (t : ℕ) → DelayHolds v k i t → Available (v .row i .floor) (v .row i .ceiling) 1 t
-  offered-delay t h = record { steps = t - v .row i .floor; on-grid = omega (arith, h .from-floor); within = h .to-ceiling }
+-- a delay that D1 allows is one of floor, floor + 1, .. up to ceiling
+pub delay-available :
+    (r : Row) (t : ℕ) → (r .floor ≤ t) × (t ≤ r .ceiling) × (r .kind ≡ 3 → 100 ≤ t) → Available (r .floor) (r .ceiling) 1 t
+delay-available r t d = record { steps = t - r .floor; on-grid = omega (arith, d .0); within = d .1 }
 
+module _ (v : View) (k : Settings) (i : ℕ) (p : 0 < v .row i .step) where
   no-pickup-found : NoPickup v k i → leastPickup (v .row i) (meetsPickup v k i) ≡ Nothing
   no-pickup-found n =
       leastOn-none _ _ _ p (meetsPickup v k i) (λ I a. fails (meetsPickup v k i I) (λ t. n I a (pickup-exactly v k i I .0 t)))
 
-  no-delay-found : ((t : ℕ) → DelayHolds v k i t → ⊥) → leastDelay (v .row i) (meetsDelay v k i) ≡ Nothing
+  no-delay-found : NoDelay v k i → leastDelay (v .row i) (meetsDelay v k i) ≡ Nothing
   no-delay-found n =
       leastOn-none _ _ 1 (omega arith) (meetsDelay v k i) (λ t a. fails (meetsDelay v k i t) (λ e. n t (delay-exactly v k i t .0 e)))
 
@@ -101,65 +102,69 @@ module _ (v : View) (k : Settings) (i : ℕ) (p : 0 < v .row i .step) where
   )
 
   -- DELAY exactly where one does, and no delay meets D1 and D2
-  pub no-delay-exactly : (settled v k i ≡ Unset Delay) ↔ NoDelay v k i
+  pub no-delay-exactly : (settled v k i ≡ Unset Delay) ↔ (SomePickup v k i × NoDelay v k i)
   unfolding settled outcomeOf
   no-delay-exactly = (to, λ d. from (leastPickup (v .row i) (meetsPickup v k i)) refl d)
     where
-      to : outcomeOf (v .row i) (leastPickup (v .row i) (meetsPickup v k i)) (leastDelay (v .row i) (meetsDelay v k i)) ≡ Unset Delay → NoDelay v k i
+      to :
+          outcomeOf (v .row i) (leastPickup (v .row i) (meetsPickup v k i)) (leastDelay (v .row i) (meetsDelay v k i)) ≡ Unset Delay →
+          SomePickup v k i × NoDelay v k i
       to e =
           let q = outcome-no-delay (v .row i) (leastPickup (v .row i) (meetsPickup v k i)) (leastDelay (v .row i) (meetsDelay v k i)) e in
-          let m = leastOn-least _ _ _ p (meetsPickup v k i) (q .0 .0) (q .0 .1) in
-          record {
-            pickup = q .0 .0;
-            offered = m .available;
-            pickup-holds = pickup-exactly v k i (q .0 .0) .0 (m .passes);
-            no-delay =
-                λ t h.
+          let m = leastOn-least _ _ _ p (meetsPickup v k i) (q .0 .0) (q .0 .1) in (
+            (q .0 .0, m .available, pickup-exactly v k i (q .0 .0) .0 (m .passes)),
+            λ t h.
                 not-both (delay-exactly v k i t .1 h)
-                (leastOn-nothing _ _ 1 (omega arith) (meetsDelay v k i) (q .1) t (offered-delay t h));
-          }
+                (leastOn-nothing _ _ 1 (omega arith) (meetsDelay v k i) (q .1) t (delay-available (v .row i) t (h .D1))),
+          )
 
-      from : (f : Found) → leastPickup (v .row i) (meetsPickup v k i) ≡ f → NoDelay v k i →
+      from :
+          (f : Found) → leastPickup (v .row i) (meetsPickup v k i) ≡ f → SomePickup v k i × NoDelay v k i →
           outcomeOf (v .row i) (leastPickup (v .row i) (meetsPickup v k i)) (leastDelay (v .row i) (meetsDelay v k i)) ≡ Unset Delay
-      from (At I) e d = rw (e, no-delay-found (d .no-delay))
+      from (At I) e d = rw (e, no-delay-found (d .1))
       from Nothing e d =
           absurd
-          (not-both (pickup-exactly v k i (d .pickup) .1 (d .pickup-holds))
-          (leastOn-nothing _ _ _ p (meetsPickup v k i) e (d .pickup) (d .offered)))
+          (not-both (pickup-exactly v k i (d .0 .0) .1 (d .0 .2)) (leastOn-nothing _ _ _ p (meetsPickup v k i) e (d .0 .0) (d .0 .1)))
 
   -- otherwise settled, and exactly at the least settings with section 3's cutoff
-  pub settled-exactly : (o : Outcome) → (settled v k i ≡ Set o) ↔ LeastSettings v k i o
-  unfolding settled outcomeOf
-  settled-exactly o = (to, from)
-    where
-      to : outcomeOf (v .row i) (leastPickup (v .row i) (meetsPickup v k i)) (leastDelay (v .row i) (meetsDelay v k i)) ≡ Set o → LeastSettings v k i o
-      to e =
-          let q = outcome-set (v .row i) (leastPickup (v .row i) (meetsPickup v k i)) (leastDelay (v .row i) (meetsDelay v k i)) o e in
-          let m = leastOn-least _ _ _ p (meetsPickup v k i) (o .pickup) (q .pickup-found) in
-          let d = leastOn-least _ _ 1 (omega arith) (meetsDelay v k i) (o .delay) (q .delay-found) in
-          record {
-            offered = m .available;
-            pickup-holds = pickup-exactly v k i (o .pickup) .0 (m .passes);
-            pickup-least = λ I a h. m .least I a (pickup-exactly v k i I .1 h);
-            delay-holds = delay-exactly v k i (o .delay) .0 (d .passes);
-            delay-least = λ t h. d .least t (offered-delay t h) (delay-exactly v k i t .1 h);
-            cutoff-is = cutoff-exactly (v .row i) p (o .cutoff) .0 (sym (q .cutoff-is));
-          }
+  pub settled-least : RowSettled v k i → LeastRow v k i
+  unfolding settled shown
+  settled-least s =
+      let o = s .outcome in
+      let q = outcome-set (v .row i) (leastPickup (v .row i) (meetsPickup v k i)) (leastDelay (v .row i) (meetsDelay v k i)) o (s .settles) in
+      let m = leastOn-least _ _ _ p (meetsPickup v k i) (o .pickup) (q .pickup-found) in
+      let d = leastOn-least _ _ 1 (omega arith) (meetsDelay v k i) (o .delay) (q .delay-found) in
+      let pickup : k i .pickup ≡ o .pickup = ap (λ (r : CardRow). r .pickup) (s .shows) in
+      let delay : k i .delay ≡ o .delay = ap (λ (r : CardRow). r .delay) (s .shows) in
+      record {
+        available = rw pickup (m .available);
+        pickup = rw pickup (pickup-exactly v k i (o .pickup) .0 (m .passes));
+        no-lower = λ I a h. rw pickup (m .least I a (pickup-exactly v k i I .1 h));
+        delay = rw delay (delay-exactly v k i (o .delay) .0 (d .passes));
+        no-shorter = λ t h. rw delay (d .least t (delay-available (v .row i) t (h .D1)) (delay-exactly v k i t .1 h));
+        cutoff = ap (λ (r : CardRow). r .cutoff) (s .shows) ∙ ap printed (q .cutoff-is);
+      }
 
-      from : LeastSettings v k i o → outcomeOf (v .row i) (leastPickup (v .row i) (meetsPickup v k i)) (leastDelay (v .row i) (meetsDelay v k i)) ≡ Set o
-      from s =
-          rw (
-            leastOn-is _ _ _ p (meetsPickup v k i) (o .pickup)
-                (record {
-                  available = s .offered;
-                  passes = pickup-exactly v k i (o .pickup) .1 (s .pickup-holds);
-                  least = λ I a t. s .pickup-least I a (pickup-exactly v k i I .0 t);
-                }),
-            leastOn-is _ _ 1 (omega arith) (meetsDelay v k i) (o .delay)
-                (record {
-                  available = offered-delay (o .delay) (s .delay-holds);
-                  passes = delay-exactly v k i (o .delay) .1 (s .delay-holds);
-                  least = λ t a e. s .delay-least t (delay-exactly v k i t .0 e);
-                }),
-            cutoff-exactly (v .row i) p (o .cutoff) .1 (s .cutoff-is),
-          )
+  pub least-settled : LeastRow v k i → RowSettled v k i
+  unfolding settled outcomeOf shown
+  least-settled m =
+      record {
+        outcome = record { pickup = k i .pickup; delay = k i .delay; cutoff = cutoffOf (v .row i) };
+        settles =
+            rw (
+              leastOn-is _ _ _ p (meetsPickup v k i) (k i .pickup) (record {
+                available = m .available;
+                passes = pickup-exactly v k i (k i .pickup) .1 (m .pickup);
+                least = λ I g t. m .no-lower I g (pickup-exactly v k i I .0 t);
+              }),
+              leastOn-is _ _ 1 (omega arith) (meetsDelay v k i) (k i .delay) (record {
+                available = delay-available (v .row i) (k i .delay) (m .delay .D1);
+                passes = delay-exactly v k i (k i .delay) .1 (m .delay);
+                least = λ t _ d. m .no-shorter t (delay-exactly v k i t .0 d);
+              }),
+            );
+        shows = λ t. record { pickup = k i .pickup; delay = k i .delay; cutoff = m .cutoff t };
+      }
+
+  pub settled-exactly : RowSettled v k i ↔ LeastRow v k i
+  settled-exactly = (settled-least, least-settled)

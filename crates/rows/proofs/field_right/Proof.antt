@@ -4,7 +4,6 @@ use borrow.Author.Needs.{needs}
 use borrow.Author.Tests.{not-true, not-false}
 use mathlib.Core.Path.{ap}
 use lib.ListN.{length}
-use Rattle.layout.specs.Fields.{bounds}
 use Rattle.rows.proofs.FieldLaws.{right-out, right-own, right-other}
 use Rattle.rows.proofs.field_right.Statement.{statement}
 use Rattle.rows.proofs.field_right.Tie as tie
