@@ -46,12 +46,14 @@ module _ (c : List ℕ) (j : ℕ) where
 
   pub righted-all : {k : ℕ} → Righted k → columnCount ≤ k → true ≡ cardRight c j
   unfolding cardRight
-  righted-all {k} a h = let e : columnCount ≡ k = omega (arith, a .within) in rw e (sym (a .so-far))
+  righted-all {k} a h =
+      let e : k ≡ columnCount = omega (arith, a .within) in
+      sym (subst (λ (n : ℕ). every n (columnRight c j) ≡ true) e (a .so-far))
 
   -- x is column k, and r says how it stands in the table t, which is that of the columns' bounds
   module _ (k x : ℕ) (e : x ≡ column c j k) (t : List ℕ) (b : t ≡ columnBounds) (r : Bool) (f : r ≡ inBounds t k x) where
     judged : columnRight c j k ≡ r
-    judged = rw (← e, ← b, ← f)
+    judged = sym (f ∙ (λ i. inBounds (b i) k (e i)))
 
     pub righted-more : Righted k → k < columnCount → r ≡ true → Righted (k + 1)
     righted-more a h p = record { within = omega arith; so-far = every-more (columnRight c j) (a .so-far) (judged ∙ p) }
