@@ -1,15 +1,15 @@
 -- A number read at the place i of the bytes s, its digits ending at `end`.
-use mathlib.Core.Path.{_≡_, ap}
-use mathlib.Core.Bool.{true, false, _&&_, and-false, or-true}
+use mathlib.Core.Path.{_≡_, sym, ap, ap₂, _∙_}
+use mathlib.Core.Bool.{Bool, true, false, not, _&&_, _||_, and-false, or-true}
 use mathlib.Core.Logic.{_⊎_, ⊎-elim}
 use mathlib.Core.List.{List}
 use Prim.Native.Nat.{ℕ, _+_, _-_, _≤_, _<_}
 use native.Mathlib.Omega.{arith}
-use lib.Dec.{leb}
+use lib.Dec.{leb, eqb}
 use lib.ListN.{length, take, drop, getD, length-drop}
 use lib.Seq.{drop-drop, getD-drop}
 use borrow.Author.Tests.{le-leb, lt-leb, eq-eqb, ne-eqb, leb-true}
-use Rattle.fold.proofs.BoolLaws.{and-left, and-right}
+use Rattle.fold.proofs.BoolLaws.{and-left, and-right, and-both}
 use Rattle.cursor.specs.declared.Class.the-variants.{Digit}
 use Rattle.cursor.specs.declared.Cursor.{Cursor}
 use Rattle.cursor.specs.declared.CellRead.the-variants.{NumberCell, NoCell}
@@ -31,21 +31,28 @@ module _ (s : List ℕ) (i end : ℕ) (e : end ≡ i + digits (drop i s)) where
 
   pub number-long : 9 < end - i → isNumber (drop i s) ≡ false
   unfolding isNumber
-  number-long h = rw (le-leb 1 (digits (drop i s)) (omega arith), lt-leb (digits (drop i s)) 9 (omega arith))
+  number-long h =
+      let d = digits (drop i s) in
+      ap₂ (λ (x y : Bool). x && y && (leb d 1 || not (eqb (getD (drop i s) 0 0) 48))) (le-leb 1 d (omega arith)) (lt-leb d 9 (omega arith))
 
   pub number-zero : 1 < end - i → getD s i 0 ≡ 48 → isNumber (drop i s) ≡ false
   unfolding isNumber
   number-zero h z =
-      rw (first-left, eq-eqb (getD s i 0) 48 z, lt-leb (digits (drop i s)) 1 (omega arith))
-      (and-false (leb 1 (digits (drop i s)) && leb (digits (drop i s)) 9))
+      let d = digits (drop i s) in
+      let more : (leb d 1 || not (eqb (getD (drop i s) 0 0) 48)) ≡ false =
+      ap₂ (λ (x y : Bool). x || not y) (lt-leb d 1 (omega arith)) (eq-eqb (getD (drop i s) 0 0) 48 (first-left s i ∙ z)) in
+      ap (λ (x : Bool). leb 1 d && leb d 9 && x) more ∙ and-false (leb 1 d && leb d 9)
 
   pub number-right : (end ≡ i → ⊥) → end - i ≤ 9 → (end - i ≤ 1) ⊎ (getD s i 0 ≡ 48 → ⊥) → isNumber (drop i s) ≡ true
   unfolding isNumber
   number-right h k z =
-      rw (le-leb 1 (digits (drop i s)) (omega (arith, h)), le-leb (digits (drop i s)) 9 (omega arith))
+      let d = digits (drop i s) in
+      and-both (and-both (le-leb 1 d (omega (arith, h))) (le-leb d 9 (omega arith)))
       (⊎-elim
-      (λ (o : end - i ≤ 1). rw (le-leb (digits (drop i s)) 1 (omega arith)))
-      (λ n. rw (first-left, ne-eqb (getD s i 0) 48 n) (or-true (leb (digits (drop i s)) 1)))
+      (λ (o : end - i ≤ 1). ap (λ (x : Bool). x || not (eqb (getD (drop i s) 0 0) 48)) (le-leb d 1 (omega arith)))
+      (λ n.
+      ap (λ (x : Bool). leb d 1 || not x) (ne-eqb (getD (drop i s) 0 0) 48 (λ q. n (sym (first-left s i) ∙ q))) ∙
+      or-true (leb d 1))
       z)
 
   digit-at : (j : ℕ) → i ≤ j → j < end → digitByte (getD s j 0) ≡ true

@@ -1,34 +1,38 @@
 -- The decimal digits of a number: how many, and that reading them gives the number back.
 use mathlib.Core.Path.{_≡_, refl, sym, ap, _∙_}
-use mathlib.Core.Bool.{true, false}
+use mathlib.Core.Bool.{Bool, cond}
 use mathlib.Core.Logic.{⊎-elim}
 use mathlib.Core.List.{List, [], _∷_, _++_}
 use Prim.Native.Nat.{ℕ, zero, suc, _+_, _-_, _*_, _/_, _%_, _^_, _≤_, _<_}
 use native.Mathlib.Nat.{pow-suc, lt-of-lt-of-le}
 use native.Mathlib.Omega.{arith}
-use lib.Dec.{ltb, lit≤}
+use lib.Dec.{lit≤}
 use lib.ListN.{length, length-append}
 use borrow.Author.Tests.{lt-ltb, le-ltb}
-use Rattle.fold.proofs.BoolLaws.{passes-or-fails, lt-or-le}
+use Rattle.fold.proofs.BoolLaws.{lt-or-le}
 use Rattle.cursor.specs.Pieces.{decimal}
 use Rattle.print.specs.Write.{lastDigit, lastDigits, digitsMost, numberText}
 
-pub digits-few : (k v : ℕ) → length (lastDigits k v) ≤ k
-unfolding lastDigits
-digits-few zero v = omega arith
-digits-few (suc k) v =
-    ⊎-elim
-    (λ (p : ltb v 10 ≡ true). rw p (omega arith))
-    (λ (p : ltb v 10 ≡ false). rw p (let h = digits-few k (v / 10) in omega (arith, length-append (lastDigits k (v / 10)) (lastDigit v ∷ []))))
-    (passes-or-fails (ltb v 10))
-
 pub digits-one : (k v : ℕ) → v < 10 → lastDigits (suc k) v ≡ lastDigit v ∷ []
 unfolding lastDigits
-digits-one k v h = rw (lt-ltb v 10 h)
+digits-one k v h = ap (λ (t : Bool). cond t (lastDigit v ∷ []) (lastDigits k (v / 10) ++ (lastDigit v ∷ []))) (lt-ltb v 10 h)
 
 pub digits-step : (k v : ℕ) → 10 ≤ v → lastDigits (suc k) v ≡ lastDigits k (v / 10) ++ (lastDigit v ∷ [])
 unfolding lastDigits
-digits-step k v h = rw (le-ltb v 10 h)
+digits-step k v h = ap (λ (t : Bool). cond t (lastDigit v ∷ []) (lastDigits k (v / 10) ++ (lastDigit v ∷ []))) (le-ltb v 10 h)
+
+pub digits-none : (v : ℕ) → lastDigits 0 v ≡ []
+unfolding lastDigits
+digits-none v = refl
+
+pub digits-few : (k v : ℕ) → length (lastDigits k v) ≤ k
+digits-few zero v = rw (digits-none v) (omega arith)
+digits-few (suc k) v =
+    ⊎-elim
+    (λ (p : v < 10). rw (digits-one k v p) (omega arith))
+    (λ (p : 10 ≤ v).
+    rw (digits-step k v p) (omega (arith, digits-few k (v / 10), length-append (lastDigits k (v / 10)) (lastDigit v ∷ []))))
+    (lt-or-le v 10)
 
 pub tenth : (k v : ℕ) → v < 10 ^ suc k → v / 10 < 10 ^ k
 tenth k v h = let e : v < 10 ^ k * 10 = rw (pow-suc 10 k) at h in omega arith

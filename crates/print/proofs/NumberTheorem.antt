@@ -8,10 +8,9 @@ use native.Mathlib.Nat.{lt-of-lt-of-le}
 use native.Mathlib.Omega.{arith}
 use lib.Dec.{lit≤}
 use lib.ListN.{length, getD, length-append, List·getD-append}
-use borrow.Author.Tests.{lt-ltb, le-ltb}
 use Rattle.fold.proofs.BoolLaws.{lt-or-le}
 use Rattle.print.specs.Write.{lastDigit, lastDigits, digitsMost, numberText}
-use Rattle.print.proofs.DigitLaws.{digits-one, digits-step, tenth, wordMost}
+use Rattle.print.proofs.DigitLaws.{digits-none, digits-one, digits-step, tenth, wordMost}
 
 -- a byte from 48 to 57
 abbrev IsDigit : ℕ → Type 0
@@ -31,12 +30,11 @@ one-more (a ∷ l) b f d zero h = f 0 (omega arith)
 one-more (a ∷ l) b f d (suc i) h = one-more l b (λ j k. f (suc j) (omega arith)) d i (omega arith)
 
 digits-all : (k v i : ℕ) → i < length (lastDigits k v) → IsDigit (getD (lastDigits k v) i 0)
-unfolding lastDigits
-digits-all zero v i = λ h. absurd (omega arith)
+digits-all zero v i = rw (digits-none v) (λ h. absurd (omega arith))
 digits-all (suc k) v i =
     ⊎-elim
-    (λ (p : v < 10). rw (lt-ltb v 10 p) (one-more [] (lastDigit v) (λ j l. absurd (omega arith)) (last-digit v) i))
-    (λ (p : 10 ≤ v). rw (le-ltb v 10 p) (one-more (lastDigits k (v / 10)) (lastDigit v) (digits-all k (v / 10)) (last-digit v) i))
+    (λ (p : v < 10). rw (digits-one k v p) (one-more [] (lastDigit v) (λ j l. absurd (omega arith)) (last-digit v) i))
+    (λ (p : 10 ≤ v). rw (digits-step k v p) (one-more (lastDigits k (v / 10)) (lastDigit v) (digits-all k (v / 10)) (last-digit v) i))
     (lt-or-le v 10)
 
 digits-some : (k v : ℕ) → 1 ≤ length (lastDigits (suc k) v)
@@ -48,14 +46,13 @@ digits-some k v =
 
 -- no more digits than the number asks
 digits-short : (k m v : ℕ) → v < 10 ^ suc k → length (lastDigits m v) ≤ suc k
-unfolding lastDigits
-digits-short k zero v h = omega arith
-digits-short zero (suc m) v h = rw (lt-ltb v 10 h) (omega arith)
+digits-short k zero v h = rw (digits-none v) (omega arith)
+digits-short zero (suc m) v h = rw (digits-one m v h) (omega arith)
 digits-short (suc k) (suc m) v h =
     ⊎-elim
-    (λ (p : v < 10). rw (lt-ltb v 10 p) (omega arith))
+    (λ (p : v < 10). rw (digits-one m v p) (omega arith))
     (λ (p : 10 ≤ v).
-    rw (le-ltb v 10 p)
+    rw (digits-step m v p)
     (omega (arith, digits-short k m (v / 10) (tenth (suc k) v h), length-append (lastDigits m (v / 10)) (lastDigit v ∷ []))))
     (lt-or-le v 10)
 

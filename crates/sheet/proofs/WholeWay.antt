@@ -2,17 +2,19 @@
 --     given-as-whole      the numbers given are those of the whole calculation of the rows' numbers
 --     prints-the-card     where that is done, what is printed is its card, with the rows' names as they stand in the text
 --     prints-a-refusal    otherwise its number, place and field
---     no-rows-count, many-rows-count     0 rows, and more than 256, are COUNT
+--     count-exactly       it is COUNT exactly where there are 0 rows, or more than 256
 use mathlib.Core.Path.{_≡_, refl, sym, ap, _∙_}
 use mathlib.Core.Bool.{Bool, true, false, cond}
+use mathlib.Core.Logic.{_⊎_, inl, inr, ⊎-elim, _↔_}
 use mathlib.Core.List.{List, [], _∷_}
-use Prim.Native.Nat.{ℕ, _≤_, _<_}
+use Prim.Native.Nat.{ℕ, _*_, _≤_, _<_}
 use native.Mathlib.Omega.{arith}
-use lib.ListN.{length}
-use Rattle.fold.proofs.BoolLaws.{fails}
+use lib.ListN.{length, getD}
+use Rattle.fold.proofs.BoolLaws.{fails, lt-or-le}
 use Rattle.answers.specs.declared.Answer.the-variants as answer
 use Rattle.answers.specs.Answer.{givenBy}
-use Rattle.rows.proofs.TestLaws.{size-none}
+use Rattle.layout.specs.Counts.{fieldCount}
+use Rattle.rows.specs.InRange.{RightSize}
 use Rattle.text.specs.declared.Reading.the-variants.{Rows}
 use Rattle.text.specs.Grammar.{Row, allNames, numbersIn}
 use Rattle.text.proofs.GrammarTheorem.{numbers-in}
@@ -20,11 +22,12 @@ use Rattle.list.specs.List.{ListText, listColumns, reading, rowsOf, rowNumbers}
 use Rattle.list.proofs.ListTheorem.{list-complete}
 use Rattle.print.specs.Card.{cardText, refusalText}
 use Rattle.calculate.specs.Whole.{whole}
-use Rattle.calculate.proofs.AnswerLaws.{answered-size}
+use Rattle.calculate.specs.Gets.{Gets}
+use Rattle.calculate.proofs.Demand1.{every-list-gets}
 use Rattle.sheet.specs.Given.{wholeOf}
 use Rattle.sheet.specs.Sheet.{namesOf, blankCard, done, Sheet, refusedWith, sheetWith, sheetBy, sheetOf}
-use Rattle.sheet.proofs.SheetLaws.{many-count}
-use Rattle.sheet.proofs.WholeAnswers.{given-done}
+use Rattle.list.proofs.PlaceLaws.{rows-stand}
+use Rattle.sheet.proofs.WholeAnswers.{given-done, count-size}
 
 with-given : (names : List (List ℕ)) (card given : List ℕ) → sheetWith names card given .given ≡ given
 unfolding sheetWith
@@ -33,10 +36,6 @@ with-given names card given = by-test (done given)
     by-test : (b : Bool) → cond {A = Sheet} b (record { given = given; text = cardText names card }) (refusedWith given) .given ≡ given
     by-test true = refl
     by-test false = refl
-
-none-count : wholeOf [] .answer ≡ answer.Count
-unfolding numbersIn
-none-count = sym (answered-size [] blankCard _ answer.Count refl (sym (size-none 0 (length blankCard) refl (omega arith))) .answer)
 
 module _ (s : List ℕ) (rs : List Row) (size : length s ≤ 65536) (t : ListText s rs) where
   reads : reading s ≡ Rows (length rs)
@@ -64,9 +63,31 @@ module _ (s : List ℕ) (rs : List Row) (size : length s ≤ 65536) (t : ListTex
   prints-a-refusal n =
       ap (λ (z : Sheet). z .text) the-sheet ∙ rw (fails (done (givenBy (wholeOf rs .answer))) (λ h. n (given-done (wholeOf rs .answer) h)))
 
-  pub many-rows-count : 256 < length rs → sheetOf s .given ≡ 2 ∷ 0 ∷ 0 ∷ []
-  many-rows-count h =
-      given-as-whole ∙ ap givenBy (sym (ap (λ (l : List ℕ). whole l blankCard .answer) the-numbers) ∙ many-count s (length rs) reads h)
+  numbers-long : length (numbersIn rs) ≡ length rs * fieldCount
+  numbers-long = ap length (sym the-numbers) ∙ rows-stand s (length rs) reads .numbers-long
 
-  pub no-rows-count : rs ≡ [] → sheetOf s .given ≡ 2 ∷ 0 ∷ 0 ∷ []
-  no-rows-count e = given-as-whole ∙ ap givenBy (ap (λ (x : List Row). wholeOf x .answer) e ∙ none-count)
+  pub count-exactly : (sheetOf s .given ≡ 2 ∷ 0 ∷ 0 ∷ []) ↔ ((length rs ≡ 0) ⊎ (256 < length rs))
+  count-exactly = (
+    λ e.
+        wrong-size
+        (count-size (every-list-gets (numbersIn rs) blankCard (wholeOf rs .answer) .0 refl) (ap (λ (g : List ℕ). getD g 0 0) (sym given-as-whole ∙ e))),
+    λ h. given-as-whole ∙ ap givenBy (every-list-gets (numbersIn rs) blankCard answer.Count .1 (Gets.COUNT (λ r. not-right h r))),
+  )
+    where
+      not-right : (length rs ≡ 0) ⊎ (256 < length rs) → RightSize (numbersIn rs) → ⊥
+      not-right h r =
+          ⊎-elim
+          (λ (e : length rs ≡ 0). omega (arith, numbers-long, r .whole-rows, r .some))
+          (λ (e : 256 < length rs). omega (arith, numbers-long, r .whole-rows, r .most))
+          h
+
+      wrong-size : (RightSize (numbersIn rs) → ⊥) → (length rs ≡ 0) ⊎ (256 < length rs)
+      wrong-size n =
+          ⊎-elim
+          (λ (many : 256 < length rs). inr many)
+          (λ (few : length rs ≤ 256).
+          ⊎-elim
+          (λ (none : length rs < 1). inl (omega arith))
+          (λ (some : 1 ≤ length rs). absurd (n (record { count = length rs; whole-rows = numbers-long; some = some; most = few })))
+          (lt-or-le (length rs) 1))
+          (lt-or-le 256 (length rs))

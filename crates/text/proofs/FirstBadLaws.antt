@@ -21,7 +21,7 @@ use Rattle.text.specs.Gets.{NoCrlf, HeaderFirst, FirstBad}
 use Rattle.text.proofs.CrlfLaws.{first-is, only-is, first-behind}
 use Rattle.text.proofs.GrammarLines.{line-sound, line-complete}
 use Rattle.text.proofs.GrammarSound.{split}
-use Rattle.text.proofs.GrammarTheorem.{headed-line}
+use Rattle.text.proofs.GrammarTheorem.{headed-line, lines-refused}
 use Rattle.text.proofs.SameLaws.{same-refl}
 
 -- the test of the header passes exactly where the header comes first
@@ -82,15 +82,9 @@ module _ (ks : List Column) (ls : List (List ℕ)) where
       (lt-or-le (run (nextIsLine ks) ls) j)
 
   pub lines-bad : (k j : ℕ) → FirstBad ks ls j → linesRead ks k ls ≡ BadLine (k + j)
-  unfolding linesRead
   lines-bad k j f =
       let e = first-bad j f in
-      let n : goodLines ks ls ≡ length ls → ⊥ = λ q. omega (arith, f .inside) in
-      rw (ne-eqb (goodLines ks ls) (length ls) n, e)
-
-  pub lines-good : (k : ℕ) → goodLines ks ls ≡ length ls → linesRead ks k ls ≡ Rows (length ls)
-  unfolding linesRead
-  lines-good k e = rw (eq-eqb (goodLines ks ls) (length ls) e, e)
+      lines-refused ks k ls (λ q. omega (arith, f .inside)) ∙ ap (λ (i : ℕ). BadLine (k + i)) e
 
 pub no-lines-good : (ks : List Column) → goodLines ks [] ≡ 0
 unfolding goodLines run

@@ -9,7 +9,7 @@ use native.Mathlib.Nat.{le-refl}
 use native.Mathlib.Omega.{arith}
 use lib.Dec.{eqb}
 use lib.ListN.{length, take, length-map}
-use borrow.Author.Tests.{eqb-true, eq-eqb}
+use borrow.Author.Tests.{eqb-true, eqb-false, eq-eqb, ne-eqb}
 use Rattle.fold.proofs.BoolLaws.{passes-or-fails, zero-not-one}
 use Rattle.cursor.specs.declared.Column.{Column}
 use Rattle.text.specs.declared.Reading.the-variants.{BadLine, Rows}
@@ -32,15 +32,27 @@ pub record Accepted (h : List ℕ) (ks : List Column) (s : List ℕ) (n : ℕ) :
   pub good : goodLines ks (rowLines s) ≡ length (rowLines s)
   pub count : length (rowLines s) ≡ n
 
+-- the reading of lines by its test
+pub lines-good : (ks : List Column) (k : ℕ) (ls : List (List ℕ)) → goodLines ks ls ≡ length ls → linesRead ks k ls ≡ Rows (length ls)
+unfolding linesRead
+lines-good ks k ls e = rw (eq-eqb (goodLines ks ls) (length ls) e) (ap Rows e)
+
+pub lines-refused :
+    (ks : List Column) (k : ℕ) (ls : List (List ℕ)) → (goodLines ks ls ≡ length ls → ⊥) → linesRead ks k ls ≡ BadLine (k + goodLines ks ls)
+unfolding linesRead
+lines-refused ks k ls n = rw (ne-eqb (goodLines ks ls) (length ls) n)
+
 lines-accepted :
     (ks : List Column) (k : ℕ) (ls : List (List ℕ)) (n : ℕ) → linesRead ks k ls ≡ Rows n → (goodLines ks ls ≡ length ls) × (length ls ≡ n)
-unfolding linesRead
-lines-accepted ks k ls n =
+lines-accepted ks k ls n e =
     ⊎-elim
     (λ (p : eqb (goodLines ks ls) (length ls) ≡ true).
-    rw p (λ (e : Rows (goodLines ks ls) ≡ Rows n). let q = eqb-true (goodLines ks ls) (length ls) p in let m : goodLines ks ls ≡ n = cc in
-    (q, omega arith)))
-    (λ (p : eqb (goodLines ks ls) (length ls) ≡ false). rw p (λ (e : BadLine (k + goodLines ks ls) ≡ Rows n). absurd (zero-not-one cc)))
+    let q = eqb-true (goodLines ks ls) (length ls) p in
+    let z : Rows (length ls) ≡ Rows n = sym (lines-good ks k ls q) ∙ e in
+    (q, cc))
+    (λ (p : eqb (goodLines ks ls) (length ls) ≡ false).
+    let z = sym (lines-refused ks k ls (eqb-false (goodLines ks ls) (length ls) p)) ∙ e in
+    absurd (zero-not-one cc))
     (passes-or-fails (eqb (goodLines ks ls) (length ls)))
 
 -- the first line is the header
@@ -106,11 +118,10 @@ module _
   rows-are = rw f (t .are)
 
   accepts : (k : ℕ) → length s ≤ textMost → take (lineLength s) s ≡ h → readAs h ks k s ≡ Rows (length rs)
-  unfolding headed rowLines linesRead
+  unfolding headed rowLines
   accepts k l e =
       let n : length (lines rest) ≡ length rs = sym (length-map (lines rest) (rowOf ks)) ∙ ap length (t .are) in
-      read-lines h ks k s (size-right s l) (rw (e, same-refl h)) ∙
-      rw (f, t .good, eq-eqb (length (lines rest)) (length (lines rest)) refl, n)
+      read-lines h ks k s (size-right s l) (rw (e, same-refl h)) ∙ rw f (lines-good ks (k + 1) (lines rest) (t .good) ∙ ap Rows n)
 
 -- Every text of the grammar that is not too long is accepted, and its rows are the grammar's, where the header is one line.
 module _ (h : List ℕ) (ks : List Column) (one : NoCrlf h) where

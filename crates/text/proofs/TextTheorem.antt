@@ -23,17 +23,17 @@ use Rattle.text.specs.Grammar.{Row, Text}
 use Rattle.text.specs.Gets.{NoCrlf, HeaderFirst, FirstBad, TextGets, too-long, no-header, bad-line, all-rows}
 use Rattle.text.proofs.CrlfLaws.{lines-none}
 use Rattle.text.proofs.GrammarSound.{split}
-use Rattle.text.proofs.GrammarTheorem.{headed-line, read-long, read-unheaded, read-lines, text-sound, text-accepted, text-rows}
+use Rattle.text.proofs.GrammarTheorem.{headed-line, lines-good, read-long, read-unheaded, read-lines, text-sound, text-accepted, text-rows}
 use Rattle.text.proofs.TextLaws.{size-right}
 use Rattle.text.proofs.FirstBadLaws.{first-headed, headed-first, lines-behind}
-use Rattle.text.proofs.FirstBadLaws.{bad-first, lines-bad, lines-good, no-lines-good, size-was, size-over, size-fails}
+use Rattle.text.proofs.FirstBadLaws.{bad-first, lines-bad, no-lines-good, size-was, size-over, size-fails}
 
 module _ (h : List ℕ) (ks : List Column) (k : ℕ) (s : List ℕ) where
   -- a text that is not too long and has its header: all lines good, or a first bad one
   module _ (p : sizeRight s ≡ true) (q : headed h s ≡ true) where
     gets-rows : goodLines ks (rowLines s) ≡ length (rowLines s) → TextGets h ks k s (readAs h ks k s)
     gets-rows g =
-        let e = read-lines h ks k s p q ∙ lines-good ks (rowLines s) (k + 1) g in
+        let e = read-lines h ks k s p q ∙ lines-good ks (k + 1) (rowLines s) g in
         let t = text-sound h ks k s (length (rowLines s)) e in
         subst (TextGets h ks k s) (ap Rows (t .1) ∙ sym e) (all-rows (size-was s p) (t .0))
 
