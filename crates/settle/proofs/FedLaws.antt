@@ -16,7 +16,7 @@ use Rattle.layout.specs.Range.{AllBounded}
 use Rattle.settle.specs.Conditions.{fed, eachFed, loadOf, othersLoad, returnsAfterSelfStart, clearOf, seesOwnZone, backsUp, withinDelays, gradedAbove}
 use Rattle.settle.specs.Fed.{reach, excess, shortfall, earliest, gathered, clearOfAll, backsUpAll, pickupBy, delayBy, settledBy}
 use Rattle.settle.specs.Settle.{meetsPickup, meetsDelay, outcomeOf, settled}
-use Rattle.settle.proofs.ConditionTheorems.{P4-exactly}
+use Rattle.settle.proofs.ConditionTheorems.{P2-exactly, P4-exactly}
 use Rattle.settle.proofs.PickupLaws.{current-volts, load-bounded}
 
 -- what holds for each fed row
@@ -84,20 +84,19 @@ module _ (v : View) (a : AllBounded v) (k : Settings) (i : ℕ) (h : i < v .coun
 
   -- P2 for every fed row, and for the greatest excess
   clear-each : (I : ℕ) → clearOfAll (v .row i) (gathered v k i) I ≡ true → eachFed v i (λ j. clearOf v k i j I) ≡ true
-  unfolding clearOfAll clearOf
+  unfolding clearOfAll
   clear-each I t =
+      let c = leb-true (11 * (gathered v k i .excess + gathered v k i .load - reach)) (10 * I * v .row i .volts) t in
       each-fed-of v i (λ j. clearOf v k i j I)
-      (λ j b g. le-leb _ _ (le-trans (mul-le-mul-left 11 (clear-at-most j b g)) (leb-true _ _ t)))
+      (λ j b g. P2-exactly v k i j I .1 (le-trans (mul-le-mul-left 11 (clear-at-most j b g)) c))
 
   clear-greatest :
       (I : ℕ) → eachFed v i (λ j. clearOf v k i j I) ≡ true → 11 * (gathered v k i .excess + gathered v k i .load - reach) ≤ 10 * I * v .row i .volts
-  unfolding clearOf
   clear-greatest I t =
       ⊎-elim
       (λ z. omega (arith, no-excess z))
       (λ m.
-      let c : 11 * (k (m .at) .pickup * v .row (m .at) .volts + othersLoad v i (m .at)) ≤ 10 * I * v .row i .volts =
-      leb-true _ _ (each-fed-at v i (λ j. clearOf v k i j I) t (m .at) (m .below) (m .counts)) in
+      let c = P2-exactly v k i (m .at) I .0 (each-fed-at v i (λ j. clearOf v k i j I) t (m .at) (m .below) (m .counts)) in
       omega (arith, load-bounded (a (m .at) (m .below)), load-others (m .at) (m .below) (m .counts), m .is))
       (greatest (fed v i) (λ j. excess (v .row j) (k j)) (v .count))
 
