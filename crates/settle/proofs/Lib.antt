@@ -1,5 +1,6 @@
 pub mod Cases
 pub mod ConditionTheorems
+pub mod CutoffTheorems
 pub mod FedLaws
 pub mod MeetsTheorems
 pub mod PickupLaws
