@@ -23,19 +23,19 @@ abbrev pub askCount : ℕ
 askCount = 4
 
 abbrev pub fedAt : List ℕ → ℕ → Fed
-fedAt s k =
+fedAt s i =
     record {
-      load = getD s (k * askCount + 0) 0;
-      excess = getD s (k * askCount + 1) 0;
-      shortfall = getD s (k * askCount + 2) 0;
-      earliest = getD s (k * askCount + 3) 0;
+      load = getD s (i * askCount + 0) 0;
+      excess = getD s (i * askCount + 1) 0;
+      shortfall = getD s (i * askCount + 2) 0;
+      earliest = getD s (i * askCount + 3) 0;
     }
 
 abbrev pub asksOf : Fed → List ℕ
 asksOf f = f .load ∷ f .excess ∷ f .shortfall ∷ f .earliest ∷ []
 
 unfoldable pub putFed : List ℕ → ℕ → Fed → List ℕ
-putFed s k f = sets s (k * askCount) (asksOf f)
+putFed s i f = sets s (i * askCount) (asksOf f)
 
 -- what two sets of fed rows ask together
 abbrev pub joined : Fed → Fed → Fed
