@@ -26,11 +26,12 @@ use Rattle.change.specs.AnyCard.{PathRefused}
 use Rattle.change.specs.Edit.{editRight}
 use Rattle.change.specs.Gets.{made, Fits, Passes, ReplacementGets}
 use Rattle.change.specs.Replace.{Replaced, reworked, outcome, replaced}
-use Rattle.change.proofs.AnyCard.{Ended, ended, path-meets, path-accepted}
+use Rattle.change.proofs.AnyCard.{path-meets, path-accepted}
 use Rattle.change.proofs.EditLaws.{edit-fits, fits-edit}
 use Rattle.change.proofs.EditedLaws.{edited-rows, edited-is-row}
 use Rattle.change.proofs.EntryLaws.{answer-size}
 use Rattle.change.proofs.KeptLaws.{refused-keeps}
+use Rattle.change.proofs.PathEndLaws.{Ended, ended}
 use Rattle.change.proofs.PathLeastLaws.{never-refused, same-refusal}
 use Rattle.change.proofs.SeriesLaws.{replaced-edit, replaced-edited}
 

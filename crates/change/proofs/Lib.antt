@@ -8,6 +8,7 @@ pub mod EditLaws
 pub mod EditedLaws
 pub mod EntryLaws
 pub mod KeptLaws
+pub mod PathEndLaws
 pub mod PathLeastLaws
 pub mod PutLaws
 pub mod RefusalLaws

@@ -1,0 +1,86 @@
+-- A replacement that passes 2, 3, 10, 4, 5 and 9 comes down to its path, worked out on the card as it is found; how that ends.
+use mathlib.Core.Path.{_≡_, ap, _∙_}
+use mathlib.Core.List.{List}
+use Prim.Native.Nat.{ℕ, _-_, _*_, _≤_, _<_}
+use lib.ListN.{length}
+use Rattle.answers.specs.declared.Answer.{Answer}
+use Rattle.answers.specs.declared.Answer.the-variants.{Done, Unsettled}
+use Rattle.answers.specs.declared.Reason.{Reason}
+use Rattle.answers.specs.declared.Tested.the-variants.{Passed}
+use Rattle.fold.proofs.BoolLaws.{zero-not-one}
+use Rattle.layout.specs.Card.{cardRowAt}
+use Rattle.layout.specs.Counts.{columnCount}
+use Rattle.layout.specs.List.{rows}
+use Rattle.layout.specs.Range.{AllBounded}
+use Rattle.layout.specs.View.{viewOf}
+use Rattle.rows.specs.InRange.{SizeGets, RowsGet}
+use Rattle.rows.specs.Tests.{sizeTest, rowsTest}
+use Rattle.rows.proofs.ExactLaws.{get-size, size-rows, get-rows}
+use Rattle.rowwise.specs.WorkOut.{Worked, onPassed, workOut}
+use Rattle.settle.specs.Inequalities.{LeastRow}
+use Rattle.settle.proofs.SettledTheorems.{settled-least}
+use Rattle.path.specs.CardTest.{CardGets}
+use Rattle.path.specs.Path.{OnPath, pathOf}
+use Rattle.path.proofs.CardTestLaws.{get-card}
+use Rattle.path.proofs.OnPathLaws.{path-on}
+use Rattle.path.proofs.PathLaws.{on-within}
+use Rattle.change.specs.AnyCard.{AsFound, PathRefused, PICKUP, DELAY}
+use Rattle.change.specs.Gets.{made, Passes}
+use Rattle.change.specs.Replace.{Replaced, reworked, outcome, replaced}
+use Rattle.change.proofs.AlongLaws.{Climbed, climbed}
+use Rattle.change.proofs.EditedLaws.{edited-rows, edited-is-row}
+use Rattle.change.proofs.SeriesLaws.{replaced-edited}
+
+unsettled-not-done : {row : ℕ} {why : Reason} → Unsettled row why ≡ Done → ⊥
+unsettled-not-done e = zero-not-one cc
+
+-- a refusal along the path is no Done
+pub refused-not-done : {l : List ℕ} {i : ℕ} {c : List ℕ} {x : Answer} → PathRefused l i c x → x ≡ Done → ⊥
+refused-not-done (PICKUP k j u n) e = unsettled-not-done e
+refused-not-done (DELAY k j u p n) e = unsettled-not-done e
+
+module _ (l c : List ℕ) (place : ℕ) (row : List ℕ) (p : Passes l c place row) where
+  abbrev l′ : List ℕ
+  l′ = made l place row
+
+  same-rows : rows l ≡ rows l′
+  same-rows = edited-rows l place row (p .fits .edit)
+
+  pub is-row : place - 1 < rows (made l place row)
+  is-row = rw (← same-rows) (edited-is-row l place row (p .fits .edit))
+
+  bounded : AllBounded (viewOf l′)
+  bounded j h = p .in-range j h .bounded
+
+  room : rows l′ * columnCount ≤ length c
+  room = rw (← same-rows) (p .fits .room)
+
+  size-passed : sizeTest (length l) (length c) ≡ Passed
+  size-passed = get-size l (length c) (SizeGets.passed (p .fits .right-size) (p .fits .room))
+
+  rows-passed : rowsTest l′ ≡ Passed
+  rows-passed = get-rows l′ (rw (← same-rows) (size-rows l (p .fits .right-size))) (RowsGet.passed (p .in-range) (p .feeds))
+
+  works : replaced l c place row ≡ outcome l c l′ (workOut l′ (pathOf l′ (place - 1)) c)
+  unfolding reworked onPassed
+  works =
+      replaced-edited l c place row size-passed (p .fits .edit) ∙
+      ap (outcome l c l′) (rw (rows-passed, get-card l′ c (CardGets.passed (p .card))))
+
+  -- how it ends
+  pub data Ended : Type 0 where
+    done :
+        replaced l c place row .answer ≡ Done → AsFound (made l place row) (place - 1) c (cardRowAt (replaced l c place row .card)) →
+        ((j : ℕ) → OnPath (made l place row) (place - 1) j → LeastRow (viewOf (made l place row)) (cardRowAt (replaced l c place row .card)) j) → Ended
+    refused-by : (x : Answer) → replaced l c place row .answer ≡ x → PathRefused (made l place row) (place - 1) c x → Ended
+
+  pub ended : Ended
+  unfolding outcome
+  ended = by-cases (climbed l′ bounded (p .feeds) (place - 1) is-row c room) works
+    where
+      by-cases : {w : Worked} → Climbed l′ bounded (p .feeds) (place - 1) is-row c w → replaced l c place row ≡ outcome l c l′ w → Ended
+      by-cases (Climbed.settled-all c′ found all) e =
+          let q : replaced l c place row .card ≡ c′ = ap (λ (r : Replaced). r .card) e in
+          done (ap (λ (r : Replaced). r .answer) e) (rw q found)
+          (λ j o. rw q (settled-least (viewOf l′) (cardRowAt c′) j (bounded j (on-within l′ (p .feeds) (place - 1) j is-row (path-on l′ (p .feeds) is-row o)) .step-from) (all j o)))
+      by-cases (Climbed.stopped x z) e = refused-by x (ap (λ (r : Replaced). r .answer) e) z
