@@ -2,10 +2,8 @@
 -- the second of two texts that stand one behind the other, read from its place and line on.
 use mathlib.Core.Path.{_≡_, refl}
 use mathlib.Core.Bool.{true, false}
-use mathlib.Core.List.{List, [], _∷_, _++_}
-use Prim.Native.Nat.{ℕ}
+use mathlib.Core.List.{[], _∷_, _++_}
 use lib.ListN.{length, drop}
-use Rattle.cursor.specs.declared.Column.{Column}
 use Rattle.cursor.specs.Bytes.{digitByte, plainByte, bareByte, crlf, passes, run}
 use Rattle.cursor.specs.Pieces.{digits, isNumber, decimal, numberOf, plainPart, bareEnd, nameEnd}
 use Rattle.cursor.specs.Pieces.{isFound, placeFound, isName, nameLength, isComma, isCell, cellLength, afterCell}
@@ -13,48 +11,17 @@ use Rattle.text.specs.declared.Reading.the-variants.{Rows, BadLine}
 use Rattle.text.specs.Line.{columnsOf, isEnd, areCells, cellNumbers, cellNames, cellPlaces, isLine, numbersOf, namesOf, placesOf}
 use Rattle.text.specs.Text.{onto, lines, lineLength, afterLine, sameBytes, sizeRight, headed}
 use Rattle.text.specs.Text.{rowLines, nextIsLine, goodLines, linesRead, readAs, allPlaces, placesAs}
+use Rattle.text.specs.Example.{cardHeader, firstCard, secondCard, inputs, cardExample, cardColumns, inputColumns}
 use Rattle.text.specs.Grammar.{rowOf, rowsAs}
 use Rattle.cursor.specs.Names.{nameAtPlace, namesAt}
-
-unfoldable pub cardHeader : List ℕ
-cardHeader =
-    110 ∷ 97 ∷ 109 ∷ 101 ∷ 44 ∷ 112 ∷ 105 ∷ 99 ∷ 107 ∷ 117 ∷ 112 ∷ 44 ∷ 100 ∷ 101 ∷ 108 ∷ 97 ∷ 121 ∷ 44 ∷ 99 ∷
-    117 ∷ 116 ∷ 111 ∷ 102 ∷ 102 ∷
-    []
-
-unfoldable pub firstCard : List ℕ
-firstCard =
-    70 ∷ 49 ∷ 44 ∷ 51 ∷ 49 ∷ 56 ∷ 48 ∷ 48 ∷ 48 ∷ 44 ∷ 49 ∷ 57 ∷ 48 ∷ 48 ∷ 44 ∷ 49 ∷ 51 ∷ 48 ∷ 48 ∷ 48 ∷ 48 ∷ 48 ∷
-    []
-
-unfoldable pub secondCard : List ℕ
-secondCard =
-    34 ∷ 73 ∷ 44 ∷ 78 ∷ 34 ∷ 44 ∷ 51 ∷ 54 ∷ 48 ∷ 48 ∷ 48 ∷ 48 ∷ 44 ∷ 50 ∷ 50 ∷ 48 ∷ 48 ∷ 44 ∷ 52 ∷ 50 ∷ 57 ∷
-    48 ∷ 48 ∷ 48 ∷ 48 ∷
-    []
-
-unfoldable pub inputs : List ℕ
-inputs =
-    51 ∷ 48 ∷ 44 ∷ 51 ∷ 48 ∷ 48 ∷ 44 ∷ 49 ∷ 53 ∷ 48 ∷ 44 ∷ 56 ∷ 48 ∷ 48 ∷ 44 ∷ 52 ∷ 48 ∷ 48 ∷ 44 ∷ 50 ∷ 48 ∷
-    44 ∷ 49 ∷ 53 ∷ 44 ∷ 49 ∷ 48 ∷ 48 ∷
-    []
-
-unfoldable pub cardExample : List ℕ
-cardExample = cardHeader ++ (13 ∷ 10 ∷ firstCard) ++ (13 ∷ 10 ∷ secondCard) ++ (13 ∷ 10 ∷ [])
-
--- a card's line: the name and three numbers; the differential's: eight numbers
-unfoldable pub cardColumns : List Column
-cardColumns = columnsOf (record { before = 0; named = true; after = 3 })
-
-unfoldable pub inputColumns : List Column
-inputColumns = columnsOf (record { before = 8; named = false; after = 0 })
+use Rattle.cursor.specs.Spelt.{spelt}
 
 pub card-read :
     (readAs cardHeader cardColumns 1 cardExample ≡ Rows 2) ×
     (rowsAs cardColumns cardExample ≡
-    record { numbers = 318000 ∷ 1900 ∷ 1300000 ∷ []; names = (70 ∷ 49 ∷ []) ∷ [] } ∷
-    record { numbers = 360000 ∷ 2200 ∷ 4290000 ∷ []; names = (34 ∷ 73 ∷ 44 ∷ 78 ∷ 34 ∷ []) ∷ [] } ∷ [])
-unfolding cardExample cardHeader firstCard secondCard cardColumns columnsOf digitByte plainByte bareByte crlf passes run digits isNumber decimal
+    record { numbers = 318000 ∷ 1900 ∷ 1300000 ∷ []; names = spelt "F1" ∷ [] } ∷
+    record { numbers = 360000 ∷ 2200 ∷ 4290000 ∷ []; names = spelt "\"I,N\"" ∷ [] } ∷ [])
+unfolding spelt cardExample cardHeader firstCard secondCard cardColumns columnsOf digitByte plainByte bareByte crlf passes run digits isNumber decimal
     numberOf plainPart bareEnd nameEnd isFound placeFound isName nameLength isComma isCell cellLength afterCell isEnd areCells cellNumbers
     cellNames isLine numbersOf namesOf onto lines lineLength afterLine sameBytes sizeRight headed rowLines nextIsLine goodLines linesRead readAs
     rowOf rowsAs
@@ -64,7 +31,7 @@ pub inputs-read :
     (isLine inputColumns inputs ≡ true) ×
     (rowOf inputColumns inputs ≡ record { numbers = 30 ∷ 300 ∷ 150 ∷ 800 ∷ 400 ∷ 20 ∷ 15 ∷ 100 ∷ []; names = [] }) ×
     (isLine inputColumns firstCard ≡ false)
-unfolding inputs firstCard inputColumns columnsOf digitByte passes run digits isNumber decimal numberOf isComma isCell cellLength afterCell isEnd areCells
+unfolding spelt inputs firstCard inputColumns columnsOf digitByte passes run digits isNumber decimal numberOf isComma isCell cellLength afterCell isEnd areCells
     cellNumbers cellNames isLine numbersOf namesOf rowOf
 inputs-read = (refl, refl, refl)
 
@@ -73,8 +40,8 @@ pub second-read :
     (readAs cardHeader cardColumns 4 (drop (length cardExample) (cardExample ++ cardExample)) ≡ Rows 2) ×
     (readAs cardHeader cardColumns 4 (drop (length cardExample) (cardExample ++ cardExample ++ (65 ∷ []))) ≡ BadLine 7) ×
     (namesAt (cardExample ++ cardExample) 2 (placesAs cardColumns (length cardExample) (drop (length cardExample) (cardExample ++ cardExample))) ≡
-    (70 ∷ 49 ∷ []) ∷ (34 ∷ 73 ∷ 44 ∷ 78 ∷ 34 ∷ []) ∷ [])
-unfolding cardExample cardHeader firstCard secondCard cardColumns columnsOf digitByte plainByte bareByte crlf passes run digits isNumber plainPart bareEnd
+    spelt "F1" ∷ spelt "\"I,N\"" ∷ [])
+unfolding spelt cardExample cardHeader firstCard secondCard cardColumns columnsOf digitByte plainByte bareByte crlf passes run digits isNumber plainPart bareEnd
     nameEnd isFound placeFound isName nameLength isComma isCell cellLength afterCell isEnd areCells cellPlaces isLine placesOf onto lines lineLength
     afterLine sameBytes sizeRight headed rowLines nextIsLine goodLines linesRead readAs allPlaces placesAs nameAtPlace namesAt
 second-read = (refl, refl, refl)

@@ -1,3 +1,4 @@
+pub mod Example
 pub mod Gets
 pub mod Grammar
 pub mod Line
