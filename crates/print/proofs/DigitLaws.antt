@@ -11,7 +11,7 @@ use lib.ListN.{length, length-append}
 use borrow.Author.Tests.{lt-ltb, le-ltb}
 use Rattle.fold.proofs.BoolLaws.{lt-or-le}
 use Rattle.cursor.specs.Pieces.{decimal}
-use Rattle.print.specs.Write.{lastDigit, lastDigits, digitsMost, numberText}
+use Rattle.print.specs.Write.{lastDigit, lastDigits, digitsMost, numberText, wordMost}
 
 pub digits-one : (k v : ℕ) → v < 10 → lastDigits (suc k) v ≡ lastDigit v ∷ []
 unfolding lastDigits
@@ -65,10 +65,6 @@ digits-value (suc k) v h =
     rw (digits-step (suc k) v p, decimal-last 0 (lastDigits (suc k) (v / 10)) (v % 10 + 48), digits-value k (v / 10) (tenth (suc k) v h))
     (omega arith))
     (lt-or-le v 10)
-
--- a number of 64 bits
-abbrev pub wordMost : ℕ
-wordMost = 18446744073709551616
 
 pub number-value : (v : ℕ) → v < wordMost → decimal 0 (numberText v) ≡ v
 unfolding numberText

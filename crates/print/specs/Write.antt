@@ -33,3 +33,7 @@ digitsMost = 20
 -- a number in decimal, without leading zeros
 unfoldable pub numberText : ℕ → List ℕ
 numberText v = lastDigits digitsMost v
+
+-- a number of 64 bits lies below this, and so has no more digits than that
+abbrev pub wordMost : ℕ
+wordMost = 18446744073709551616

@@ -12,7 +12,7 @@ use Rattle.text.specs.Line.{columnsOf, isEnd, areCells, cellNumbers, cel
 use Rattle.text.specs.Text.{onto, lines, lineLength, afterLine, sameBytes, sizeRight, headed}
 use Rattle.text.specs.Text.{rowLines, nextIsLine, goodLines, linesRead, readAs, allPlaces, placesAs}
 use Rattle.text.specs.Example.{cardHeader, firstCard, secondCard, inputs, cardExample, cardColumns, inputColumns}
-use Rattle.text.specs.Grammar.{rowOf, rowsAs}
+use Rattle.text.specs.Grammar.{rowOf, rowsAs, allNames, numbersIn}
 use Rattle.cursor.specs.Names.{nameAtPlace, namesAt}
 use Rattle.cursor.specs.Spelt.{spelt}
 
@@ -26,6 +26,13 @@ unfolding spelt cardExample cardHeader firstCard secondCard cardColumns columnsO
     cellNames isLine numbersOf namesOf onto lines lineLength afterLine sameBytes sizeRight headed rowLines nextIsLine goodLines linesRead readAs
     rowOf rowsAs
 card-read = (refl, refl)
+
+-- its numbers and its names, in the order of the rows
+pub card-numbers-names :
+    (numbersIn (rowsAs cardColumns cardExample) ≡ 318000 ∷ 1900 ∷ 1300000 ∷ 360000 ∷ 2200 ∷ 4290000 ∷ []) ×
+    (allNames (rowsAs cardColumns cardExample) ≡ spelt "F1" ∷ spelt "\"I,N\"" ∷ [])
+unfolding numbersIn allNames
+card-numbers-names = (rw (card-read .1), rw (card-read .1))
 
 pub inputs-read :
     (isLine inputColumns inputs ≡ true) ×
