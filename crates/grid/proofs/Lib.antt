@@ -1,2 +1,3 @@
+pub mod Cases
 pub mod GridLaws
 pub mod RoundLaws

@@ -1,2 +1,3 @@
+pub mod Cases
 pub mod Grid
 pub mod Round

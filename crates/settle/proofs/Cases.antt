@@ -1,18 +1,18 @@
 -- The worked cases of section 3 hold of the definitions that the contracts cite: the tables compute to what the section says.
 use mathlib.Core.Path.{_≡_, refl}
-use mathlib.Core.List.{map}
+use mathlib.Core.Bool.{true}
 use Rattle.fold.specs.First.{first}
 use Rattle.fold.specs.Fold.{sumTo, every}
 use Rattle.grid.specs.Grid.{count, valueAt, leastOn}
-use Rattle.settle.specs.Cases.{Judged, Worked, network, below, conditions, settlings}
+use Rattle.settle.specs.Cases.{network, below, conditions, same, settlings, all}
 use Rattle.settle.specs.Conditions.{returnsAfterSelfStart, clearOf, seesOwnZone, backsUp, withinDelays, margin, gradedAbove, staysClear, seesNear}
 use Rattle.settle.specs.Settle.{meetsPickup, meetsDelay, fitting, cutoffOf, printed, shown, outcomeOf, settled}
 
-pub condition-cases : map (λ (c : Judged). c .test) conditions ≡ map (λ (c : Judged). c .is) conditions
-unfolding conditions network below sumTo every returnsAfterSelfStart clearOf seesOwnZone backsUp withinDelays margin gradedAbove staysClear seesNear
+pub condition-cases : all conditions ≡ true
+unfolding all conditions network below sumTo every returnsAfterSelfStart clearOf seesOwnZone backsUp withinDelays margin gradedAbove staysClear seesNear
 condition-cases = refl
 
-pub settling-cases : map (λ (c : Worked). c .comes) settlings ≡ map (λ (c : Worked). c .is) settlings
-unfolding settlings network below first sumTo every count valueAt leastOn returnsAfterSelfStart clearOf seesOwnZone backsUp withinDelays margin
+pub settling-cases : all settlings ≡ true
+unfolding all same settlings network below first sumTo every count valueAt leastOn returnsAfterSelfStart clearOf seesOwnZone backsUp withinDelays margin
     gradedAbove staysClear seesNear meetsPickup meetsDelay fitting cutoffOf printed shown outcomeOf settled
 settling-cases = refl

@@ -1,8 +1,9 @@
 -- [01 §3, §4] Worked cases of one row's conditions and of its settling, each worked out by hand from the section, on each side of
 -- every bound. Rows are named by their numbers, from 1. Definitions only.
-use mathlib.Core.Bool.{Bool, true, false}
+use mathlib.Core.Bool.{Bool, true, false, not, _&&_}
 use mathlib.Core.List.{List, [], _∷_}
 use Prim.Native.Nat.{ℕ, zero, suc, _+_, _-_, _*_}
+use lib.Dec.{eqb}
 use lib.ListN.{set}
 use Rattle.answers.specs.Answer.{reasonNumber}
 use Rattle.layout.specs.Card.{columnsOf}
@@ -39,16 +40,17 @@ below zero = card 20000 400
 below (suc zero) = card 60000 700
 below (suc (suc j)) = card 750000 100
 
--- a test, and what the section says of it
-pub record Judged : Type 0 where
-  pub test : Bool
-  pub is : Bool
+-- every case of a table is as the section says
+unfoldable pub all : List Bool → Bool
+all [] = true
+all (b ∷ bs) = b && all bs
 
-abbrev holds : Bool → Judged
-holds b = record { test = b; is = true }
+-- what it says of a test
+abbrev holds : Bool → Bool
+holds b = b
 
-abbrev fails : Bool → Judged
-fails b = record { test = b; is = false }
+abbrev fails : Bool → Bool
+fails b = not b
 
 -- P2 of row n above row m, and above every row that it feeds; D2 above row m; the others are named as they are
 abbrev clearAbove : ℕ → ℕ → ℕ → Bool
@@ -60,7 +62,7 @@ clearAboveAll n I = eachFed (viewOf network) (n - 1) (λ j. clearOf (viewOf netw
 abbrev laterThan : ℕ → ℕ → Bool
 laterThan m t = gradedAbove (row m) (below (m - 1)) t
 
-unfoldable pub conditions : List Judged
+unfoldable pub conditions : List Bool
 conditions =
     -- P1: 10 × 12,100 × 1,000 = 11 × 1,100 × 10,000, and the same of rows 2, 3 and 4
     holds (returnsAfterSelfStart (row 1) 12100) ∷ fails (returnsAfterSelfStart (row 1) 12099)
@@ -103,19 +105,22 @@ abbrev outcome : Settled → List ℕ
 outcome (Set o) = columnsOf (shown o)
 outcome (Unset why) = reasonNumber why ∷ []
 
--- what a row comes to, and what sections 3 and 4 say of it
-pub record Worked : Type 0 where
-  pub comes : List ℕ
-  pub is : List ℕ
+-- two lists have the same numbers
+unfoldable pub same : List ℕ → List ℕ → Bool
+same [] [] = true
+same [] (y ∷ ys) = false
+same (x ∷ xs) [] = false
+same (x ∷ xs) (y ∷ ys) = eqb x y && same xs ys
 
-abbrev settles : List ℕ → ℕ → List ℕ → Worked
-settles l n o = record { comes = outcome (settled (viewOf l) below (n - 1)); is = o }
+-- row n of the list comes to these numbers
+abbrev settles : List ℕ → ℕ → List ℕ → Bool
+settles l n o = same (outcome (settled (viewOf l) below (n - 1))) o
 
 -- the list with another number in a field of row n
 abbrev with : List ℕ → ℕ → ℕ → ℕ → List ℕ
 with l n k x = set l ((n - 1) * fieldCount + k) x
 
-unfoldable pub settlings : List Worked
+unfoldable pub settlings : List Bool
 settlings =
     settles network 1 (12100 ∷ 0 ∷ 122100 ∷ [])
     ∷ settles network 2 (41250 ∷ 700 ∷ 501250 ∷ [])
