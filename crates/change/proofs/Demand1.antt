@@ -4,7 +4,6 @@
 --     refused-as-lent     any refusal leaves list and card as they were lent
 -- `replaced` is the definition that the public entry's contract cites (specs/Replace.antt).
 use mathlib.Core.Path.{_≡_, refl, sym, ap, _∙_, subst}
-use mathlib.Core.Bool.{true, false}
 use mathlib.Core.Logic.{_↔_, ⊎-elim}
 use mathlib.Core.List.{List}
 use Prim.Native.Nat.{ℕ, _-_, _≤_, _<_}

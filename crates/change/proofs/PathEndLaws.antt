@@ -82,5 +82,7 @@ module _ (l c : List ℕ) (place : ℕ) (row : List ℕ) (p : Passes l c place r
       by-cases (Climbed.settled-all c′ found all) e =
           let q : replaced l c place row .card ≡ c′ = ap (λ (r : Replaced). r .card) e in
           done (ap (λ (r : Replaced). r .answer) e) (rw q found)
-          (λ j o. rw q (settled-least (viewOf l′) (cardRowAt c′) j (bounded j (on-within l′ (p .feeds) (place - 1) j is-row (path-on l′ (p .feeds) is-row o)) .step-from) (all j o)))
+          (λ j o.
+          let within = on-within l′ (p .feeds) (place - 1) j is-row (path-on l′ (p .feeds) is-row o) in
+          rw q (settled-least (viewOf l′) (cardRowAt c′) j (bounded j within .step-from) (all j o)))
       by-cases (Climbed.stopped x z) e = refused-by x (ap (λ (r : Replaced). r .answer) e) z

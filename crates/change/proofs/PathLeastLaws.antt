@@ -1,6 +1,6 @@
 -- Along a path, with the numbers found off it: where some settings meet every condition no row is refused, and the row and the
 -- reason of a refusal are one only.
-use mathlib.Core.Path.{_≡_, refl, sym, ap, _∙_}
+use mathlib.Core.Path.{_≡_, sym, ap, _∙_}
 use mathlib.Core.Bool.{true, false}
 use mathlib.Core.Logic.{⊎-elim}
 use mathlib.Core.List.{List}
@@ -18,7 +18,7 @@ use Rattle.layout.specs.View.{viewOf, Settings}
 use Rattle.rows.specs.InRange.{Feeds}
 use Rattle.settle.proofs.SameLaws.{fed-below}
 use Rattle.settle.specs.Inequalities.{AvailableOn, PickupMet, DelayMet, SomePickup, NoPickup, NoDelay}
-use Rattle.calculate.proofs.LeastLaws.{pickups-under-on, pickup-fits-on, delays-under-on, delay-fits-on}
+use Rattle.calculate.proofs.LeastLaws.{pickups-under-on, pickup-fits-on, delay-fits-on}
 use Rattle.calculate.proofs.MeetsLaws.{pickup-down}
 use Rattle.path.specs.Path.{OnPath, onPath}
 use Rattle.path.proofs.OnPathLaws.{on-path-exactly, off-path-exactly}

@@ -6,8 +6,6 @@ use Prim.Native.Nat.{ℕ, _-_}
 use lib.ListN.{length}
 use Rattle.answers.specs.declared.Answer.{Answer}
 use Rattle.answers.specs.declared.Answer.the-variants.{Done}
-use Rattle.answers.specs.declared.Tested.{Tested}
-use Rattle.answers.specs.declared.Tested.the-variants.{Passed, Refused}
 use Rattle.rows.specs.Tests.{sizeTest, rowsTest}
 use Rattle.rowwise.specs.WorkOut.{Worked, finished, refused, workOut, onPassed}
 use Rattle.change.specs.Edit.{putList, editTest}

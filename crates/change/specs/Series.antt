@@ -7,7 +7,7 @@ use lib.ListN.{replicate}
 use Rattle.layout.specs.Counts.{columnCount}
 use Rattle.answers.specs.declared.Answer.{Answer}
 use Rattle.answers.specs.declared.Answer.the-variants.{Edit}
-use Rattle.answers.specs.Answer.{givenBy, numberOf}
+use Rattle.answers.specs.Answer.{numberOf}
 use Rattle.layout.specs.List.{rows}
 use Rattle.calculate.specs.Whole.{whole}
 use Rattle.change.specs.Edit.{putList, editRight}

@@ -9,6 +9,7 @@ use native.Mathlib.Omega.{arith}
 use lib.Dec.{leb}
 use borrow.Author.Tests.{leb-true, le-leb}
 use Rattle.fold.proofs.BoolLaws.{and-left, and-right, and-both}
+use Rattle.fold.proofs.FoldLaws.{below-cases}
 use Rattle.layout.specs.Card.{column, cardRowAt, columnBounds}
 use Rattle.layout.specs.Counts.{fieldCount, columnCount}
 use Rattle.layout.specs.Fields.{atFeeder, atKind, atVolts, atWork, atSelfstart, atReturn, atFar, atClear, atNear, atFactor, atLow, atHigh, atStep}
@@ -63,26 +64,32 @@ within-bounded l i w =
       backed-to = w atBacked (omega arith) (omega arith) .1;
     }
 
+-- field k is the n-th, or one below it
+one-below :
+    (l : List ℕ) (i k n : ℕ) → Within bounds n (field l i n) → (k < n → Within bounds k (field l i k)) → k < suc n →
+    Within bounds k (field l i k)
+one-below l i k n w below h = below-cases h (λ e. rw e w) below
+
 pub bounded-within : (l : List ℕ) (i : ℕ) → Bounded (rowAt l i) → (k : ℕ) → 1 ≤ k → k < fieldCount → Within bounds k (field l i k)
-bounded-within l i b zero h g = absurd (omega arith)
-bounded-within l i b (suc zero) h g = (omega arith, b .feeder-to)
-bounded-within l i b (suc (suc zero)) h g = (b .kind-from, b .kind-to)
-bounded-within l i b (suc (suc (suc zero))) h g = (b .volts-from, b .volts-to)
-bounded-within l i b (suc (suc (suc (suc zero)))) h g = (b .work-from, b .work-to)
-bounded-within l i b (suc (suc (suc (suc (suc zero))))) h g = (b .selfstart-from, b .selfstart-to)
-bounded-within l i b (suc (suc (suc (suc (suc (suc zero)))))) h g = (b .return-from, b .return-to)
-bounded-within l i b (suc (suc (suc (suc (suc (suc (suc zero))))))) h g = (b .far-from, b .far-to)
-bounded-within l i b (suc (suc (suc (suc (suc (suc (suc (suc zero)))))))) h g = (b .clear-from, b .clear-to)
-bounded-within l i b (suc (suc (suc (suc (suc (suc (suc (suc (suc zero))))))))) h g = (b .near-from, b .near-to)
-bounded-within l i b (suc (suc (suc (suc (suc (suc (suc (suc (suc (suc zero)))))))))) h g = (b .factor-from, b .factor-to)
-bounded-within l i b (suc (suc (suc (suc (suc (suc (suc (suc (suc (suc (suc zero))))))))))) h g = (b .low-from, b .low-to)
-bounded-within l i b (suc (suc (suc (suc (suc (suc (suc (suc (suc (suc (suc (suc zero)))))))))))) h g = (b .high-from, b .high-to)
-bounded-within l i b (suc (suc (suc (suc (suc (suc (suc (suc (suc (suc (suc (suc (suc zero))))))))))))) h g = (b .step-from, b .step-to)
-bounded-within l i b (suc (suc (suc (suc (suc (suc (suc (suc (suc (suc (suc (suc (suc (suc zero)))))))))))))) h g = (b .device-from, b .device-to)
-bounded-within l i b (suc (suc (suc (suc (suc (suc (suc (suc (suc (suc (suc (suc (suc (suc (suc zero))))))))))))))) h g = (omega arith, b .floor-to)
-bounded-within l i b (suc (suc (suc (suc (suc (suc (suc (suc (suc (suc (suc (suc (suc (suc (suc (suc zero)))))))))))))))) h g = (omega arith, b .ceiling-to)
-bounded-within l i b (suc (suc (suc (suc (suc (suc (suc (suc (suc (suc (suc (suc (suc (suc (suc (suc (suc zero))))))))))))))))) h g = (omega arith, b .backed-to)
-bounded-within l i b (suc (suc (suc (suc (suc (suc (suc (suc (suc (suc (suc (suc (suc (suc (suc (suc (suc (suc k)))))))))))))))))) h g = absurd (omega arith)
+bounded-within l i b k h =
+    let is-or = one-below l i k in
+    is-or atBacked (omega arith, b .backed-to)
+    (is-or atCeiling (omega arith, b .ceiling-to)
+    (is-or atFloor (omega arith, b .floor-to)
+    (is-or atDevice (b .device-from, b .device-to)
+    (is-or atStep (b .step-from, b .step-to)
+    (is-or atHigh (b .high-from, b .high-to)
+    (is-or atLow (b .low-from, b .low-to)
+    (is-or atFactor (b .factor-from, b .factor-to)
+    (is-or atNear (b .near-from, b .near-to)
+    (is-or atClear (b .clear-from, b .clear-to)
+    (is-or atFar (b .far-from, b .far-to)
+    (is-or atReturn (b .return-from, b .return-to)
+    (is-or atSelfstart (b .selfstart-from, b .selfstart-to)
+    (is-or atWork (b .work-from, b .work-to)
+    (is-or atVolts (b .volts-from, b .volts-to)
+    (is-or atKind (b .kind-from, b .kind-to)
+    (is-or atFeeder (omega arith, b .feeder-to) (λ g. absurd (omega arith))))))))))))))))))
 
 -- the same of the columns of a card row
 pub columns-exactly :

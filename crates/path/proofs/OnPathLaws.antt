@@ -3,12 +3,11 @@ use mathlib.Core.Path.{_≡_, _∙_}
 use mathlib.Core.Bool.{true, false, or-true}
 use mathlib.Core.Logic.{_↔_}
 use mathlib.Core.List.{List}
-use Prim.Native.Nat.{ℕ, _-_, _<_}
+use Prim.Native.Nat.{ℕ, _<_}
 use native.Mathlib.Omega.{arith}
 use lib.Dec.{eqb}
 use Rattle.fold.proofs.BoolLaws.{fails, not-both}
-use Rattle.layout.specs.Fields.{atFeeder}
-use Rattle.layout.specs.List.{rows, field}
+use Rattle.layout.specs.List.{rows}
 use Rattle.rows.specs.InRange.{Feeds}
 use Rattle.path.specs.Path.{OnPath, itself, above, onPath}
 use Rattle.path.proofs.PathLaws.{fed-climbs, on-fed, on-self, on-path}

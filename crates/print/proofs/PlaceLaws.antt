@@ -1,6 +1,6 @@
 -- Names by their places: which are right, and what room a card takes.
 use mathlib.Core.Path.{_≡_}
-use mathlib.Core.Bool.{Bool, true, false, _&&_}
+use mathlib.Core.Bool.{true, false, _&&_}
 use mathlib.Core.List.{List}
 use Prim.Native.Nat.{ℕ, _+_, _-_, _*_, _/_, _≤_, _<_}
 use native.Mathlib.Nat.{add-zero, add-sub-cancel-left}
@@ -11,8 +11,7 @@ use lib.Seq.{getD-drop}
 use borrow.Author.Tests.{le-leb, lt-leb, leb-true}
 use Rattle.layout.specs.Counts.{columnCount}
 use Rattle.fold.specs.Fold.{every}
-use Rattle.fold.proofs.BoolLaws.{and-left, and-right, not-both, fails}
-use Rattle.fold.proofs.FoldLaws.{every-at}
+use Rattle.fold.proofs.BoolLaws.{and-left, and-right}
 use Rattle.cursor.specs.Pieces.{nameMost}
 use Rattle.cursor.specs.Names.{nameAtPlace}
 use Rattle.print.specs.Card.{headerSize, lineMost, placeRight, printable, RowsFit}

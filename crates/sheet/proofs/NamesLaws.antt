@@ -1,7 +1,7 @@
 -- The names of a text's rows: each is a name of the grammar, and the rows of a list have one each.
 use mathlib.Core.Path.{_≡_, refl, ap}
 use mathlib.Core.List.{List, [], _∷_, _++_}
-use Prim.Native.Nat.{ℕ, suc, _+_}
+use Prim.Native.Nat.{ℕ, suc}
 use native.Mathlib.Omega.{arith}
 use lib.ListN.{length, length-append}
 use Rattle.cursor.specs.declared.Column.{Column}

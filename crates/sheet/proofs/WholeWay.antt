@@ -21,7 +21,6 @@ use Rattle.text.proofs.GrammarTheorem.{numbers-in}
 use Rattle.list.specs.List.{ListText, listColumns, reading, rowsOf, rowNumbers}
 use Rattle.list.proofs.ListTheorem.{list-complete}
 use Rattle.print.specs.Card.{cardText, refusalText}
-use Rattle.calculate.specs.Whole.{whole}
 use Rattle.calculate.specs.Gets.{Gets}
 use Rattle.calculate.proofs.Demand1.{every-list-gets}
 use Rattle.sheet.specs.Given.{wholeOf}

@@ -1,19 +1,19 @@
 -- The tests of the reading, by what they say of the bytes: the size, the header first, and the first bad line.
 use mathlib.Core.Path.{_≡_, refl, sym, ap, _∙_}
 use mathlib.Core.Bool.{true, false}
-use mathlib.Core.Logic.{_⊎_, inl, inr, ⊎-elim}
+use mathlib.Core.Logic.{inl, inr, ⊎-elim}
 use mathlib.Core.List.{List, [], _∷_, _++_}
 use Prim.Native.Nat.{ℕ, _+_, _≤_, _<_}
 use native.Mathlib.Nat.{add-zero}
 use native.Mathlib.Omega.{arith}
 use lib.ListN.{length, drop, getD}
 use lib.Seq.{getD-drop}
-use borrow.Author.Tests.{leb-true, leb-false, lt-leb, eq-eqb, ne-eqb}
+use borrow.Author.Tests.{leb-true, leb-false, lt-leb}
 use Rattle.fold.proofs.BoolLaws.{lt-or-le, not-both}
 use Rattle.cursor.specs.declared.Column.{Column}
 use Rattle.cursor.specs.Bytes.{run}
 use Rattle.cursor.proofs.RunLaws.{run-length, run-end, run-at}
-use Rattle.text.specs.declared.Reading.the-variants.{BadLine, Rows}
+use Rattle.text.specs.declared.Reading.the-variants.{BadLine}
 use Rattle.text.specs.Line.{isLine}
 use Rattle.text.specs.Text.{textMost, lines, afterLine, nextIsLine, goodLines, linesRead, sizeRight, headed, rowLines}
 use Rattle.text.specs.Grammar.{rowOf}

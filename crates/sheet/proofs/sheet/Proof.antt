@@ -1,8 +1,8 @@
 -- `sheet::sheet` meets its contract: what `print_text` printed aside is copied where it fits, and otherwise nothing is.
 use borrow.Author.Needs.{needs}
 use native.Mathlib.Omega.{arith}
-use mathlib.Core.Path.{_≡_, sym, ap, _∙_}
-use lib.ListN.{length, take}
+use mathlib.Core.Path.{sym, ap, _∙_}
+use lib.ListN.{length}
 use Rattle.sheet.proofs.SheetLaws.{fits-filled, card-unfit, refusal-unfit}
 use Rattle.sheet.proofs.sheet.Statement.{statement}
 use Rattle.sheet.proofs.sheet.Tie as tie
