@@ -1,5 +1,6 @@
 pub mod AllLaws
 pub mod AnswerLaws
+pub mod CardRange
 pub mod Demand1
 pub mod Demand2
 pub mod FrameLaws

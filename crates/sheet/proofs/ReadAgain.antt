@@ -5,8 +5,9 @@
 --     sheet-read-again   so is what is printed for the text of a list that is done, and the reader finds those rows in it
 use mathlib.Core.Path.{_≡_, refl, sym, ap, _∙_}
 use mathlib.Core.Bool.{Bool, true}
+use mathlib.Core.Logic.{inr, ⊎-elim}
 use mathlib.Core.List.{List, [], _∷_, _++_, append-assoc}
-use Prim.Native.Nat.{ℕ, zero, suc, _+_, _≤_, _<_}
+use Prim.Native.Nat.{ℕ, zero, suc, _+_, _*_, _/_, _%_, _≤_, _<_}
 use native.Mathlib.Nat.{lt-of-lt-of-le}
 use native.Mathlib.Omega.{arith}
 use lib.Dec.{lit≤}
@@ -15,11 +16,16 @@ use lib.Seq.{getD-drop}
 use Rattle.cursor.specs.declared.Column.the-variants.{Numbers}
 use Rattle.cursor.specs.Bytes.{digitByte}
 use Rattle.cursor.proofs.ByteTheorem.{digit-exactly}
+use Rattle.layout.specs.Card.{cardRowAt}
 use Rattle.layout.specs.Counts.{columnCount}
+use Rattle.layout.specs.Range.{CardRowInRange}
+use Rattle.calculate.proofs.CardRange.{card-in-range, card-length}
+use Rattle.fold.proofs.BoolLaws.{lt-or-le}
+use Rattle.answers.specs.Answer.{givenBy}
 use Rattle.answers.specs.declared.Answer.the-variants.{Done}
 use Rattle.text.specs.declared.Reading.the-variants.{Rows}
 use Rattle.text.specs.Gets.{NoCrlf}
-use Rattle.text.specs.Grammar.{All, IsNumber, IsNameText, Row, Cells, Line, Lines, Text, rows, rowsAs, allNames}
+use Rattle.text.specs.Grammar.{All, IsNumber, IsNameText, Row, Cells, Line, Lines, Text, rows, rowsAs, allNames, numbersIn}
 use Rattle.text.specs.Text.{readAs}
 use Rattle.text.proofs.GrammarText.{noCr, all-test, no-cr-no-crlf}
 use Rattle.text.proofs.GrammarTheorem.{text-complete}
@@ -29,10 +35,11 @@ use Rattle.print.specs.Write.{numberText}
 use Rattle.print.proofs.DigitLaws.{number-value}
 use Rattle.print.proofs.NumberTheorem.{number-digits, number-some, number-nine, number-no-leading-zero}
 use Rattle.sheet.specs.Given.{wholeOf}
-use Rattle.sheet.specs.Sheet.{sheetOf}
+use Rattle.sheet.specs.Sheet.{blankCard, sheetOf}
 use Rattle.sheet.proofs.NamesLaws.{text-names, names-count}
 use Rattle.sheet.proofs.RoomLaws.{sheet-short}
-use Rattle.sheet.proofs.WholeWay.{prints-the-card}
+use Rattle.sheet.proofs.WholeWay.{given-as-whole, prints-the-card, numbers-long, count-exactly}
+use Rattle.sheet.proofs.WholeAnswers.{blank-room}
 use Rattle.sheet.specs.Again.{cardHeaderLine, cardColumns, cardRows, EachName, CardFor}
 
 all-at : (f : ℕ → Bool) (l : List ℕ) → ((i : ℕ) → i < length l → f (getD l i 0) ≡ true) → All f l
@@ -97,13 +104,42 @@ card-rows-count (name ∷ names) card = ap suc (card-rows-count names (drop colu
 header-one-line : NoCrlf cardHeaderLine
 header-one-line = no-cr-no-crlf cardHeaderLine (all-test noCr cardHeaderLine refl)
 
-module _
-    (s : List ℕ) (rs : List Row) (size : length s ≤ 65536) (t : ListText s rs) (e : wholeOf rs .answer ≡ Done)
-    (c : CardFor (length rs) (wholeOf rs .card)) where
+-- a number of a card whose rows are in range is below 1,000,000,000
+in-range-below : (card : List ℕ) (i : ℕ) → CardRowInRange (cardRowAt card (i / columnCount)) → getD card i 0 < 1000000000
+in-range-below card i r = by-column (i % columnCount) refl
+  where
+    at : (k : ℕ) → i % columnCount ≡ k → i ≡ i / columnCount * columnCount + k
+    at k e = omega arith
+
+    by-column : (k : ℕ) → i % columnCount ≡ k → getD card i 0 < 1000000000
+    by-column zero e = rw (at 0 e) (omega (arith, r .pickup-to))
+    by-column (suc zero) e = rw (at 1 e) (omega (arith, r .delay-to))
+    by-column (suc (suc zero)) e = rw (at 2 e) (omega (arith, r .cutoff-to))
+    by-column (suc (suc (suc k))) e = absurd (omega arith)
+
+module _ (s : List ℕ) (rs : List Row) (size : length s ≤ 65536) (t : ListText s rs) (e : wholeOf rs .answer ≡ Done) where
+  few : length rs ≤ 256
+  few =
+      ⊎-elim
+      (λ (many : 256 < length rs).
+      let z : _≡_ {A = ℕ} 2 0 =
+      ap (λ (g : List ℕ). getD g 0 0) (sym (count-exactly s rs size t .1 (inr many)) ∙ given-as-whole s rs size t ∙ ap givenBy e) in
+      absurd (omega arith))
+      (λ (h : length rs ≤ 256). h)
+      (lt-or-le 256 (length rs))
+
+  card-for : CardFor (length rs) (wholeOf rs .card)
+  card-for =
+      let n = numbers-long s rs size t in
+      record {
+        numbers-there = omega (arith, few, blank-room, card-length (numbersIn rs) blankCard);
+        below = λ i h. in-range-below (wholeOf rs .card) i (card-in-range (numbersIn rs) blankCard e (i / columnCount) (omega arith));
+      }
+
   card-text : Text cardHeaderLine cardColumns (sheetOf s .text) (cardRows (allNames rs) (wholeOf rs .card))
   card-text =
       rw (prints-the-card s rs size t e)
-      (card-read-again (allNames rs) (wholeOf rs .card) (text-names t) (rw (names-count t) c))
+      (card-read-again (allNames rs) (wholeOf rs .card) (text-names t) (rw (names-count t) card-for))
 
   pub sheet-read-again :
       (readAs cardHeaderLine cardColumns 1 (sheetOf s .text) ≡ Rows (length rs)) ×

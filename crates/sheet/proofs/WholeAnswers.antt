@@ -34,7 +34,7 @@ given-done (Study place) h = absurd (false≢true h)
 given-done (Card row) h = absurd (false≢true h)
 given-done Edit h = absurd (false≢true h)
 
-blank-room : cardMost ≤ length blankCard
+pub blank-room : cardMost ≤ length blankCard
 unfolding blankCard
 blank-room = lit≤ tt
 

@@ -62,7 +62,7 @@ module _ (s : List ℕ) (rs : List Row) (size : length s ≤ 65536) (t : ListTex
   prints-a-refusal n =
       ap (λ (z : Sheet). z .text) the-sheet ∙ rw (fails (done (givenBy (wholeOf rs .answer))) (λ h. n (given-done (wholeOf rs .answer) h)))
 
-  numbers-long : length (numbersIn rs) ≡ length rs * fieldCount
+  pub numbers-long : length (numbersIn rs) ≡ length rs * fieldCount
   numbers-long = ap length (sym the-numbers) ∙ rows-stand s (length rs) reads .numbers-long
 
   pub count-exactly : (sheetOf s .given ≡ 2 ∷ 0 ∷ 0 ∷ []) ↔ ((length rs ≡ 0) ⊎ (256 < length rs))

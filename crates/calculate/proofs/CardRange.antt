@@ -1,0 +1,85 @@
+-- The card that the whole calculation gives, in range as 9 CARD asks [01 §4]: pickups 1 to 100,000,000, delays to 100,000, cutoffs to 100,000,000.
+-- And it has as many numbers as the lent one.
+use mathlib.Core.Path.{_≡_, refl}
+use mathlib.Core.Bool.{Bool, true, false, cond}
+use mathlib.Core.List.{List}
+use Prim.Native.Nat.{ℕ, _≤_, _<_}
+use native.Mathlib.Nat.{le-trans}
+use native.Mathlib.Omega.{arith}
+use lib.ListN.{length}
+use Rattle.fold.specs.declared.Found.{Found}
+use Rattle.fold.specs.declared.Found.the-variants.{At, Nothing}
+use Rattle.fold.proofs.BoolLaws.{zero-not-one}
+use Rattle.grid.proofs.GridLaws.{leastOn-least}
+use Rattle.answers.specs.declared.Answer.{Answer}
+use Rattle.answers.specs.declared.Answer.the-variants.{Done}
+use Rattle.answers.specs.declared.Tested.{Tested}
+use Rattle.answers.specs.declared.Tested.the-variants.{Passed, Refused}
+use Rattle.layout.specs.declared.Row.{Row}
+use Rattle.layout.specs.Card.{cardRowAt}
+use Rattle.layout.specs.List.{rows, rowAt}
+use Rattle.layout.specs.Range.{Bounded, CardRowInRange}
+use Rattle.layout.specs.View.{View}
+use Rattle.rows.specs.Tests.{sizeTest, rowsTest}
+use Rattle.settle.specs.declared.Cutoff.the-variants.{Fitted, NotFitted}
+use Rattle.settle.specs.Conditions.{staysClear, seesNear}
+use Rattle.settle.specs.Settle.{leastPickup, fitting, cutoffOf, printed}
+use Rattle.rowwise.specs.WorkOut.{Worked, finished, refused, onPassed}
+use Rattle.calculate.specs.Gets.{Gets}
+use Rattle.calculate.specs.Refused.{RefusedAt}
+use Rattle.calculate.specs.Whole.{ending, calculation, whole}
+use Rattle.calculate.proofs.Demand1.{every-list-gets}
+use Rattle.calculate.proofs.Demand2.{accepted-meets, cutoff-column}
+use Rattle.calculate.proofs.FrameLaws.{calculation-keeps}
+
+-- a cutoff is one of the row's pickups, or 0
+pub cutoff-to : (r : Row) → Bounded r → printed (cutoffOf r) ≤ 100000000
+unfolding cutoffOf fitting printed
+cutoff-to r b = by-cases (leastPickup r (staysClear r)) refl
+  where
+    by-sight : (v : Bool) (C : ℕ) → C ≤ 100000000 → printed (cond v (Fitted C) NotFitted) ≤ 100000000
+    by-sight true C q = q
+    by-sight false C q = omega arith
+
+    by-cases : (f : Found) → leastPickup r (staysClear r) ≡ f → printed (fitting r f) ≤ 100000000
+    by-cases (At C) e = by-sight (seesNear r C) C (le-trans (leastOn-least _ _ _ (b .step-from) (staysClear r) C e .available .within) (b .high-to))
+    by-cases Nothing e = omega arith
+
+refused-not-done : {v : View} {a : Answer} → RefusedAt v a → a ≡ Done → ⊥
+refused-not-done (RefusedAt.PICKUP k i u n) e = zero-not-one cc
+refused-not-done (RefusedAt.DELAY k i u p n) e = zero-not-one cc
+
+module _ (l c : List ℕ) where
+  pub card-in-range : whole l c .answer ≡ Done → (i : ℕ) → i < rows l → CardRowInRange (cardRowAt (whole l c .card) i)
+  card-in-range e i h = of-gets (every-list-gets l c (whole l c .answer) .0 refl) e
+    where
+      of-gets : {a : Answer} → Gets l c a → a ≡ Done → CardRowInRange (cardRowAt (whole l c .card) i)
+      of-gets (Gets.COUNT n) q = absurd (zero-not-one cc)
+      of-gets (Gets.ROOM s n) q = absurd (zero-not-one cc)
+      of-gets (Gets.FIELD s r j k f) q = absurd (zero-not-one cc)
+      of-gets (Gets.TREE s r a j f) q = absurd (zero-not-one cc)
+      of-gets (Gets.PICKUP-or-DELAY s r a b z) q = absurd (refused-not-done z q)
+      of-gets (Gets.DONE s r a b k m) q =
+          let met = accepted-meets l c s r a b e in
+          let p = met .pickups .available i h in
+          let bounded = a i h .bounded in
+          let low : 1 ≤ rowAt l i .low = bounded .low-from in
+          record {
+            pickup-from = omega (arith, p .on-grid);
+            pickup-to = le-trans (p .within) (bounded .high-to);
+            delay-to = le-trans (met .delays i h .D1 .1) (bounded .ceiling-to);
+            cutoff-to = rw (cutoff-column l c s r a b e i h) (cutoff-to (rowAt l i) bounded);
+          }
+
+  pub card-length : length (whole l c .card) ≡ length c
+  unfolding whole ending onPassed
+  card-length = by-tests (sizeTest (length l) (length c)) (rowsTest l)
+    where
+      by-work : (w : Worked) → calculation l c ≡ w → length (ending c w .card) ≡ length c
+      by-work (finished d) q = calculation-keeps l c d q .same-length
+      by-work (refused a) q = refl
+
+      by-tests : (t u : Tested) → length (ending c (onPassed t (onPassed u (calculation l c))) .card) ≡ length c
+      by-tests Passed Passed = by-work (calculation l c) refl
+      by-tests Passed (Refused a) = refl
+      by-tests (Refused a) u = refl
