@@ -17,19 +17,20 @@ use Rattle.answers.specs.declared.Tested.{Tested}
 use Rattle.answers.specs.declared.Tested.the-variants.{Passed, Refused}
 use Rattle.layout.specs.declared.Row.{Row}
 use Rattle.layout.specs.Card.{cardRowAt}
-use Rattle.layout.specs.List.{rows, rowAt}
+use Rattle.layout.specs.List.{rows}
 use Rattle.layout.specs.Range.{Bounded, CardRowInRange}
-use Rattle.layout.specs.View.{View}
+use Rattle.layout.specs.View.{View, viewOf, Settings}
 use Rattle.rows.specs.Tests.{sizeTest, rowsTest}
 use Rattle.settle.specs.declared.Cutoff.the-variants.{Fitted, NotFitted}
 use Rattle.settle.specs.Conditions.{staysClear, seesNear}
+use Rattle.settle.specs.Inequalities.{LeastRow}
 use Rattle.settle.specs.Settle.{leastPickup, fitting, cutoffOf, printed}
 use Rattle.rowwise.specs.WorkOut.{Worked, finished, refused, onPassed}
 use Rattle.calculate.specs.Gets.{Gets}
 use Rattle.calculate.specs.Refused.{RefusedAt}
 use Rattle.calculate.specs.Whole.{ending, calculation, whole}
 use Rattle.calculate.proofs.Demand1.{every-list-gets}
-use Rattle.calculate.proofs.Demand2.{accepted-meets, cutoff-column}
+use Rattle.calculate.proofs.Demand2.{accepted-least}
 use Rattle.calculate.proofs.FrameLaws.{calculation-keeps}
 
 -- a cutoff is one of the row's pickups, or 0
@@ -44,6 +45,17 @@ cutoff-to r b = by-cases (leastPickup r (staysClear r)) refl
     by-cases : (f : Found) → leastPickup r (staysClear r) ≡ f → printed (fitting r f) ≤ 100000000
     by-cases (At C) e = by-sight (seesNear r C) C (le-trans (leastOn-least _ _ _ (b .step-from) (staysClear r) C e .available .within) (b .high-to))
     by-cases Nothing e = omega arith
+
+-- a row at its least settings is in range
+pub least-in-range : (v : View) (k : Settings) (i : ℕ) → Bounded (v .row i) → LeastRow v k i → CardRowInRange (k i)
+least-in-range v k i b m =
+    let low = b .low-from in
+    record {
+      pickup-from = omega (arith, m .available .on-grid);
+      pickup-to = le-trans (m .available .within) (b .high-to);
+      delay-to = le-trans (m .delay .D1 .1) (b .ceiling-to);
+      cutoff-to = rw (m .cutoff) (cutoff-to (v .row i) b);
+    }
 
 refused-not-done : {v : View} {a : Answer} → RefusedAt v a → a ≡ Done → ⊥
 refused-not-done (RefusedAt.PICKUP k i u n) e = zero-not-one cc
@@ -60,16 +72,7 @@ module _ (l c : List ℕ) where
       of-gets (Gets.TREE s r a j f) q = absurd (zero-not-one cc)
       of-gets (Gets.PICKUP-or-DELAY s r a b z) q = absurd (refused-not-done z q)
       of-gets (Gets.DONE s r a b k m) q =
-          let met = accepted-meets l c s r a b e in
-          let p = met .pickups .available i h in
-          let bounded = a i h .bounded in
-          let low : 1 ≤ rowAt l i .low = bounded .low-from in
-          record {
-            pickup-from = omega (arith, p .on-grid);
-            pickup-to = le-trans (p .within) (bounded .high-to);
-            delay-to = le-trans (met .delays i h .D1 .1) (bounded .ceiling-to);
-            cutoff-to = rw (cutoff-column l c s r a b e i h) (cutoff-to (rowAt l i) bounded);
-          }
+          least-in-range (viewOf l) (cardRowAt (whole l c .card)) i (a i h .bounded) (accepted-least l c s r a b e i h)
 
   pub card-length : length (whole l c .card) ≡ length c
   unfolding whole ending onPassed

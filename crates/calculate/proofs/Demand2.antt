@@ -95,13 +95,14 @@ module _ (l c : List ℕ) (size : RightSize l) (room : HasRoom l (length c)) (a 
       by-cases (accepted d f) = calculation-settled l b c (whole l c .card) room f
       by-cases (refused-by x d z) = absurd (never-done z (sym d ∙ e))
 
-  every-row-least : whole l c .answer ≡ Done → (j : ℕ) → j < rows l → LeastRow v card j
+  -- each row of the card stands at its own least settings
+  pub accepted-least : whole l c .answer ≡ Done → (j : ℕ) → j < rows l → LeastRow (viewOf l) (cardRowAt (whole l c .card)) j
   unfolding v card
-  every-row-least e j h = settled-least v card j (bounded j h .step-from) (every-row-settled e j h)
+  accepted-least e j h = settled-least v card j (bounded j h .step-from) (every-row-settled e j h)
 
   pub accepted-meets : whole l c .answer ≡ Done → Meets (viewOf l) (cardRowAt (whole l c .card))
   unfolding v card
-  accepted-meets e = least-meets v card (every-row-least e)
+  accepted-meets e = least-meets v card (accepted-least e)
 
   -- pickups that meet P1 to P4: no row is refused with PICKUP, and none of the card's is higher
   module _ (k : Settings) (m : PickupsMeet (viewOf l) k) where
@@ -116,7 +117,7 @@ module _ (l c : List ℕ) (size : RightSize l) (room : HasRoom l (length c)) (a 
 
     pub no-lower-pickup : whole l c .answer ≡ Done → (i : ℕ) → i < rows l → cardRowAt (whole l c .card) i .pickup ≤ k i .pickup
     unfolding v card
-    no-lower-pickup e = pickups-under v (fed-below l b) card k m (rows l) (omega arith) (every-row-least e)
+    no-lower-pickup e = pickups-under v (fed-below l b) card k m (rows l) (omega arith) (accepted-least e)
 
   -- delays that meet D1 and D2: no row is refused with DELAY, and none of the card's is longer
   module _ (k : Settings) (m : DelaysMeet (viewOf l) k) where
@@ -131,7 +132,7 @@ module _ (l c : List ℕ) (size : RightSize l) (room : HasRoom l (length c)) (a 
 
     pub no-shorter-delay : whole l c .answer ≡ Done → (i : ℕ) → i < rows l → cardRowAt (whole l c .card) i .delay ≤ k i .delay
     unfolding v card
-    no-shorter-delay e = delays-under v (fed-below l b) card k m (rows l) (omega arith) (every-row-least e)
+    no-shorter-delay e = delays-under v (fed-below l b) card k m (rows l) (omega arith) (accepted-least e)
 
   -- settings that meet every condition
   module _ (k : Settings) (m : Meets (viewOf l) k) where
@@ -153,7 +154,7 @@ module _ (l c : List ℕ) (size : RightSize l) (room : HasRoom l (length c)) (a 
 
   pub cutoff-column : whole l c .answer ≡ Done → (i : ℕ) → i < rows l → cardRowAt (whole l c .card) i .cutoff ≡ printed (cutoffOf (rowAt l i))
   unfolding v card
-  cutoff-column e i h = every-row-least e i h .cutoff
+  cutoff-column e i h = accepted-least e i h .cutoff
 
   pub done-or-refused : (whole l c .answer ≡ Done) ⊎ RefusedAt (viewOf l) (whole l c .answer)
   unfolding v

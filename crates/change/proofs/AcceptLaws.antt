@@ -1,34 +1,26 @@
 -- An accepted list and its card: the tests pass, the calculation finishes with the card, and each row of the card stands at
 -- its own least settings, which pass CARD.
 use mathlib.Core.Path.{_≡_, refl, sym, ap, _∙_}
-use mathlib.Core.Bool.{Bool, true, false, cond}
 use mathlib.Core.List.{List}
 use Prim.Native.Nat.{ℕ, _*_, _≤_, _<_}
-use native.Mathlib.Nat.{le-trans}
 use native.Mathlib.Omega.{arith}
 use lib.ListN.{length}
-use Rattle.fold.specs.declared.Found.{Found}
-use Rattle.fold.specs.declared.Found.the-variants.{At, Nothing}
-use Rattle.grid.proofs.GridLaws.{leastOn-least}
 use Rattle.answers.specs.declared.Answer.{Answer}
 use Rattle.answers.specs.declared.Answer.the-variants.{Done}
 use Rattle.answers.specs.declared.Tested.{Tested}
 use Rattle.answers.specs.declared.Tested.the-variants.{Passed, Refused}
-use Rattle.layout.specs.declared.Row.{Row}
 use Rattle.layout.specs.Card.{cardRowAt}
 use Rattle.layout.specs.Counts.{columnCount}
-use Rattle.layout.specs.List.{rows, rowAt}
+use Rattle.layout.specs.List.{rows}
 use Rattle.layout.specs.View.{viewOf}
-use Rattle.layout.specs.Range.{Bounded, CardRowInRange}
+use Rattle.layout.specs.Range.{CardRowInRange}
 use Rattle.rows.specs.InRange.{InRange}
 use Rattle.rows.specs.Tests.{sizeTest, rowsTest}
 use Rattle.rows.proofs.InRangeLaws.{passed-feeds}
 use Rattle.rows.proofs.TestLaws.{size-passed}
-use Rattle.settle.specs.declared.Cutoff.the-variants.{Fitted, NotFitted}
-use Rattle.settle.specs.Conditions.{seesNear, staysClear}
-use Rattle.settle.specs.Settle.{leastPickup, fitting, cutoffOf, printed}
 use Rattle.rowwise.specs.WorkOut.{Worked, finished, refused, onPassed}
 use Rattle.calculate.specs.Whole.{Result, ending, calculation, whole}
+use Rattle.calculate.proofs.CardRange.{least-in-range}
 use Rattle.calculate.proofs.FrameLaws.{calculation-keeps}
 use Rattle.settle.proofs.SettledTheorems.{settled-least}
 use Rattle.calculate.proofs.SettledLaws.{Settles, calculation-settled}
@@ -68,29 +60,10 @@ accepts l c₀ c e = by-size (sizeTest (length l) (length c₀)) refl
 
 -- a card row at its own least settings passes CARD
 module _ (l : List ℕ) (a : InRange l) (c : List ℕ) (j : ℕ) (h : j < rows l) (s : Settles l c j) where
-  cutoff-bounded : (r : Row) → Bounded r → printed (cutoffOf r) ≤ 100000000
-  unfolding cutoffOf fitting printed
-  cutoff-bounded r b = by-cases (leastPickup r (staysClear r)) refl
-    where
-      by-sight : (v : Bool) (C : ℕ) → C ≤ 100000000 → printed (cond v (Fitted C) NotFitted) ≤ 100000000
-      by-sight true C q = q
-      by-sight false C q = omega arith
-
-      by-cases : (f : Found) → leastPickup r (staysClear r) ≡ f → printed (fitting r f) ≤ 100000000
-      by-cases (At C) e = by-sight (seesNear r C) C (le-trans (leastOn-least _ _ _ (b .step-from) (staysClear r) C e .available .within) (b .high-to))
-      by-cases Nothing e = omega arith
-
   pub settled-fits : CardRowInRange (cardRowAt c j)
   settled-fits =
       let b = a j h .bounded in
-      let m = settled-least (viewOf l) (cardRowAt c) j (b .step-from) s in
-      let low : 1 ≤ rowAt l j .low = b .low-from in
-      record {
-        pickup-from = omega (arith, m .available .on-grid);
-        pickup-to = le-trans (m .available .within) (b .high-to);
-        delay-to = le-trans (m .delay .D1 .1) (b .ceiling-to);
-        cutoff-to = rw (m .cutoff) (cutoff-bounded (rowAt l j) b);
-      }
+      least-in-range (viewOf l) (cardRowAt c) j b (settled-least (viewOf l) (cardRowAt c) j (b .step-from) s)
 
 module _ (l c₀ c : List ℕ) (x : Accepts l c₀ c) where
   pub accepted-room : rows l * columnCount ≤ length c₀

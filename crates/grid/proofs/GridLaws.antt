@@ -10,8 +10,7 @@ use borrow.Author.Tests.{leb-true, le-leb}
 use Rattle.fold.specs.declared.Found.{Found}
 use Rattle.fold.specs.declared.Found.the-variants.{At, Nothing}
 use Rattle.fold.specs.First.{first}
-use Rattle.grid.specs.Grid as grid
-use Rattle.grid.specs.Grid.{Available, count, valueAt, leastOn}
+use Rattle.grid.specs.Grid.{Available, Least, count, valueAt, leastOn}
 use Rattle.fold.proofs.BoolLaws.{passes-or-fails, lt-or-le, not-both, fails, and-left, and-right, and-both, zero-not-one}
 use Rattle.fold.proofs.FirstLaws.{first-at, first-nothing}
 
@@ -28,12 +27,8 @@ unfolding count
 within-count low high step m p h =
     le-div-iff-mul-le p .1 (rw suc-mul (omega arith))
 
--- the grid's `Least`, told beside a step above 0, as callers have it
-abbrev pub Least : (low high step : ℕ) → 0 < step → (ℕ → Bool) → ℕ → Type 0
-Least low high step p ok x = grid.Least low high step ok x
-
 module _ (low high step : ℕ) (p : 0 < step) (ok : ℕ → Bool) where
-  least-found : (f : Found) (x : ℕ) → first (λ m. ok (low + m * step)) 0 (count low high step) ≡ f → valueAt low step f ≡ At x → grid.Least low high step ok x
+  least-found : (f : Found) (x : ℕ) → first (λ m. ok (low + m * step)) 0 (count low high step) ≡ f → valueAt low step f ≡ At x → Least low high step ok x
   unfolding valueAt
   least-found (At m) x e q =
       let r = first-at (λ m. ok (low + m * step)) (count low high step) 0 m e in
@@ -56,7 +51,7 @@ module _ (low high step : ℕ) (p : 0 < step) (ok : ℕ → Bool) where
       }
   least-found Nothing x e q = absurd (zero-not-one cc)
 
-  pub leastOn-least : (x : ℕ) → leastOn low high step ok ≡ At x → grid.Least low high step ok x
+  pub leastOn-least : (x : ℕ) → leastOn low high step ok ≡ At x → Least low high step ok x
   unfolding leastOn
   leastOn-least x e = least-found (first (λ m. ok (low + m * step)) 0 (count low high step)) x refl e
 
@@ -75,7 +70,7 @@ module _ (low high step : ℕ) (p : 0 < step) (ok : ℕ → Bool) where
   leastOn-nothing e y a = none-found (first (λ m. ok (low + m * step)) 0 (count low high step)) refl e y a
 
   -- a least passing value is what is found, and where none passes nothing is
-  pub leastOn-is : (x : ℕ) → grid.Least low high step ok x → leastOn low high step ok ≡ At x
+  pub leastOn-is : (x : ℕ) → Least low high step ok x → leastOn low high step ok ≡ At x
   leastOn-is x h = by-cases (leastOn low high step ok) refl
     where
       by-cases : (f : Found) → leastOn low high step ok ≡ f → leastOn low high step ok ≡ At x
@@ -111,7 +106,7 @@ pub leastOn-capped :
     ((x y : ℕ) → x ≤ y → up y ≡ true → up x ≡ true) → leastOn low high step ok ≡ capped up (leastOn low high step (leb b))
 leastOn-capped low high step p ok up b same down = by-cases (leastOn low high step (leb b)) refl
   where
-    refused : (x : ℕ) → grid.Least low high step (leb b) x → up x ≡ false → (y : ℕ) → Available low high step y → ok y ≡ false
+    refused : (x : ℕ) → Least low high step (leb b) x → up x ≡ false → (y : ℕ) → Available low high step y → ok y ≡ false
     refused x r u y a =
         fails (ok y)
         (λ t.

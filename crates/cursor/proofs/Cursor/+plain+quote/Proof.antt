@@ -1,6 +1,6 @@
 -- The proof of the cycle of calls {plain, quote}. Each call stands one byte further on, so the measure is what is left of the slice.
 use mathlib.Core.Path.{sym, ap, _∙_}
-use Prim.Native.Nat.{_-_, ℕ}
+use Prim.Native.Nat.{_-_, ℕ, _<_}
 use native.Mathlib.Omega.{arith}
 use lib.ListN.{length}
 use denote.Ref.{now}

@@ -1,6 +1,6 @@
 -- The proof of the cycle of calls {put_number}. The number without its last digit is written first; the measure is the number.
 --
-use Prim.Native.Nat.{_/_, ℕ}
+use Prim.Native.Nat.{_/_, ℕ, _<_}
 use native.Mathlib.Omega.{arith}
 use lib.ListN.{length-set}
 use denote.Ref.{now}
