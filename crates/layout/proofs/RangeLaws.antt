@@ -15,7 +15,7 @@ use Rattle.layout.specs.Counts.{fieldCount, columnCount}
 use Rattle.layout.specs.Fields.{atFeeder, atKind, atVolts, atWork, atSelfstart, atReturn, atFar, atClear, atNear, atFactor, atLow, atHigh, atStep}
 use Rattle.layout.specs.Fields.{atDevice, atFloor, atCeiling, atBacked, bounds, leastIn, greatestIn, inBounds}
 use Rattle.layout.specs.List.{field, rowAt}
-use Rattle.layout.specs.Range.{Within, Bounded, CardRowInRange}
+use Rattle.layout.specs.Range.{Within, namedCount, Bounded, CardRowInRange}
 
 -- the test of an entry is what it says
 pub in-bounds-exactly : (table : List ℕ) (k x : ℕ) → (inBounds table k x ≡ true) ↔ Within table k x
@@ -29,7 +29,7 @@ in-bounds-exactly table k x = (
 )
 
 -- all fields but the first within the table: the row is as section 2 says
-pub within-bounded : (l : List ℕ) (i : ℕ) → ((k : ℕ) → 1 ≤ k → k < fieldCount → Within bounds k (field l i k)) → Bounded (rowAt l i)
+pub within-bounded : (l : List ℕ) (i : ℕ) → ((k : ℕ) → 1 ≤ k → k < namedCount → Within bounds k (field l i k)) → Bounded (rowAt l i)
 within-bounded l i w =
     record {
       feeder-to = w atFeeder (omega arith) (omega arith) .1;
@@ -70,7 +70,7 @@ one-below :
     Within bounds k (field l i k)
 one-below l i k n w below h = below-cases h (λ e. rw e w) below
 
-pub bounded-within : (l : List ℕ) (i : ℕ) → Bounded (rowAt l i) → (k : ℕ) → 1 ≤ k → k < fieldCount → Within bounds k (field l i k)
+pub bounded-within : (l : List ℕ) (i : ℕ) → Bounded (rowAt l i) → (k : ℕ) → 1 ≤ k → k < namedCount → Within bounds k (field l i k)
 bounded-within l i b k h =
     let is-or = one-below l i k in
     is-or atBacked (omega arith, b .backed-to)

@@ -11,12 +11,13 @@ use Rattle.layout.specs.Counts.{fieldCount, rowsMost}
 use Rattle.fold.specs.declared.Found.{Found}
 use Rattle.fold.specs.declared.Found.the-variants.{At, Nothing}
 use Rattle.fold.specs.First.{first}
-use Rattle.fold.proofs.BoolLaws.{and-left, and-right, and-both, implies, implied, passes-or-fails, zero-not-one}
+use Rattle.fold.proofs.BoolLaws.{and-left, and-right, and-both, implies, implied, passes-or-fails, lt-or-le, zero-not-one}
 use Rattle.fold.proofs.FirstLaws.{first-none, first-nothing}
 use Rattle.answers.specs.declared.Tested.{Tested}
 use Rattle.answers.specs.declared.Tested.the-variants.{Passed}
 use Rattle.layout.specs.Fields.{atLow, atHigh, bounds, inBounds}
 use Rattle.layout.specs.List.{rows, field, rowAt}
+use Rattle.layout.specs.Range.{namedCount}
 use Rattle.layout.proofs.RangeLaws.{in-bounds-exactly, within-bounded, bounded-within}
 use Rattle.rows.specs.Tests.{fieldRight, rowFault, faultAfter, rowAtFault, feedsRight, fedWrongly, fieldAnswer, treeAnswer, treeTest, rowsTest}
 use Rattle.rows.specs.InRange.{RowInRange, InRange, FieldInRange, FedRightly, Feeds}
@@ -55,13 +56,17 @@ module _ (l : List ℕ) (i : ℕ) where
   fields-row r o =
       record {
         own-number = r 0 (omega arith) .own-number refl;
-        bounded = within-bounded l i (λ k a b. r k b .within a);
+        bounded = within-bounded l i (λ k a b. r k (omega arith) .within a);
+        not-named = λ k a b. r k b .within (omega arith);
         low-at-most-high = o;
       }
 
   pub row-fields : RowInRange l i → (k : ℕ) → k < fieldCount → FieldInRange l i k
   row-fields r k h =
-      record { own-number = λ z. rw z (r .own-number); within = λ a. bounded-within l i (r .bounded) k a h }
+      record {
+        own-number = λ z. rw z (r .own-number);
+        within = λ a. ⊎-elim (λ b. bounded-within l i (r .bounded) k a b) (λ b. r .not-named k b h) (lt-or-le k namedCount);
+      }
 
   pub no-fault-row : rowFault l i ≡ 0 → RowInRange l i
   unfolding rowFault

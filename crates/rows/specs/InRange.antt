@@ -12,7 +12,7 @@ use Rattle.answers.specs.declared.Tested.the-variants.{Passed, Refused}
 use Rattle.layout.specs.Counts.{fieldCount, columnCount, rowsMost}
 use Rattle.layout.specs.Fields.{bounds}
 use Rattle.layout.specs.List.{rows, field, rowAt}
-use Rattle.layout.specs.Range.{Within, Bounded}
+use Rattle.layout.specs.Range.{Within, namedCount, Bounded}
 
 -- a list of 1 to 256 whole rows of 18 numbers
 pub record RightSize (l : List ℕ) : Type 0 where
@@ -25,10 +25,12 @@ pub record RightSize (l : List ℕ) : Type 0 where
 abbrev pub HasRoom : List ℕ → ℕ → Type 0
 HasRoom l room = rows l * columnCount ≤ room
 
--- row i is in range: its first field is its own number, the others lie within the table, and low is at most high
+-- row i is in range: its first field is its own number, the others lie within the table (those that are not named yet: there is none
+-- today), and low is at most high
 pub record RowInRange (l : List ℕ) (i : ℕ) : Type 0 where
   pub own-number : field l i 0 ≡ i + 1
   pub bounded : Bounded (rowAt l i)
+  pub not-named : (k : ℕ) → namedCount ≤ k → k < fieldCount → Within bounds k (field l i k)
   pub low-at-most-high : rowAt l i .low ≤ rowAt l i .high
 
 abbrev pub InRange : List ℕ → Type 0
