@@ -110,35 +110,35 @@ columns-exactly c i = (
     by-column b (suc (suc zero)) h = (omega arith, b .cutoff-to)
     by-column b (suc (suc (suc k))) h = absurd (omega arith)
 
--- ---- the order of the fields and of the columns: in the second row of a list and of a card whose numbers are 1, 2, 3, ..
+-- ---- the order of the fields and of the columns, in the second row: field n of it is 100 + n, and so is its column n
 
 pub fields-in-order :
     rowAt
     (
     1 ∷ 2 ∷ 3 ∷ 4 ∷ 5 ∷ 6 ∷ 7 ∷ 8 ∷ 9 ∷ 10 ∷ 11 ∷ 12 ∷ 13 ∷ 14 ∷ 15 ∷ 16 ∷ 17 ∷ 18 ∷
-    19 ∷ 20 ∷ 21 ∷ 22 ∷ 23 ∷ 24 ∷ 25 ∷ 26 ∷ 27 ∷ 28 ∷ 29 ∷ 30 ∷ 31 ∷ 32 ∷ 33 ∷ 34 ∷ 35 ∷ 36 ∷ []
+    101 ∷ 102 ∷ 103 ∷ 104 ∷ 105 ∷ 106 ∷ 107 ∷ 108 ∷ 109 ∷ 110 ∷ 111 ∷ 112 ∷ 113 ∷ 114 ∷ 115 ∷ 116 ∷ 117 ∷ 118 ∷ []
     )
     1 ≡
     record {
-      feeder = 20;
-      kind = 21;
-      volts = 22;
-      work = 23;
-      selfstart = 24;
-      returnfactor = 25;
-      far = 26;
-      clear = 27;
-      near = 28;
-      factor = 29;
-      low = 30;
-      high = 31;
-      step = 32;
-      device = 33;
-      floor = 34;
-      ceiling = 35;
-      backed = 36;
+      feeder = 102;
+      kind = 103;
+      volts = 104;
+      work = 105;
+      selfstart = 106;
+      returnfactor = 107;
+      far = 108;
+      clear = 109;
+      near = 110;
+      factor = 111;
+      low = 112;
+      high = 113;
+      step = 114;
+      device = 115;
+      floor = 116;
+      ceiling = 117;
+      backed = 118;
     }
 fields-in-order = refl
 
-pub columns-in-order : cardRowAt (1 ∷ 2 ∷ 3 ∷ 4 ∷ 5 ∷ 6 ∷ []) 1 ≡ record { pickup = 4; delay = 5; cutoff = 6 }
+pub columns-in-order : cardRowAt (1 ∷ 2 ∷ 3 ∷ 101 ∷ 102 ∷ 103 ∷ []) 1 ≡ record { pickup = 101; delay = 102; cutoff = 103 }
 columns-in-order = refl
