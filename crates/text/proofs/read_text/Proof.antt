@@ -13,11 +13,11 @@ use Rattle.text.proofs.TextLaws.{text-long, text-unheaded, text-rows, h
 use Rattle.text.proofs.read_text.Statement.{statement}
 use Rattle.text.proofs.read_text.Tie as tie
 
--- from the end of the first line back to the start
+-- from the end of the first line back to the test of the size, and to the start
 abbrev start-of : tie.After-skip → tie.Start
 start-of c =
-    let sized = c .before .before .before in
-    sized .before .before .before
+    let tested = c .before in
+    tested .before .before .before .before .before
 
 ends-inside : (c : tie.After-skip) → c .skip .result .at ≤ length (now (start-of c .args .text))
 unfolding lineLength
