@@ -11,11 +11,11 @@ use Rattle.layout.specs.View.{View}
 abbrev pub Within : List ℕ → ℕ → ℕ → Type 0
 Within table k x = (leastIn table k ≤ x) × (x ≤ greatestIn table k)
 
--- so many of a row's fields, its own number first, are named in `Row`; one that is added later is named there when it is used
+-- the row's own number and the fields that `Row` names are so many; one that is added later is named there when it is used
 abbrev pub namedCount : ℕ
 namedCount = 18
 
--- the others of them lie within section 2's table
+-- the fields that `Row` names lie within section 2's table
 pub record Bounded (r : Row) : Type 0 where
   pub feeder-to : r .feeder ≤ 256
   pub kind-from : 1 ≤ r .kind
