@@ -99,7 +99,7 @@ module _ (l c₀ s₀ c s : List ℕ) (i : ℕ) (v : Passing l c₀ s₀ c s i) 
   unfolding step workedAs stepBy onSettled
   all-refused t a c′ s′ e z = goes-on ∙ by-cases (settledBy (rowAt l i) (fedAt s i)) (sym e ∙ z .answer)
     where
-      by-cases : (o : Settled) → Refused a ≡ stepBy (rowAt l i) i c s o .tested → onSettled i o rest ≡ refused a
+      by-cases : (o : Settled) → Refused a ≡ stepBy l i c s o .tested → onSettled i o rest ≡ refused a
       by-cases (Set o) e = absurd (never-passed (sym e))
       by-cases (Unset why) e = ap refused (same-answer (sym e))
 
@@ -108,7 +108,7 @@ module _ (l c₀ s₀ c s : List ℕ) (i : ℕ) (v : Passing l c₀ s₀ c s i) 
   all-next t c′ s′ p z = by-cases (settledBy (rowAt l i) (fedAt s i)) refl z
     where
       by-cases :
-          (o : Settled) → settledBy (rowAt l i) (fedAt s i) ≡ o → Stepped (stepBy (rowAt l i) i c s o) t c′ s′ → Passing l c₀ s₀ c′
+          (o : Settled) → settledBy (rowAt l i) (fedAt s i) ≡ o → Stepped (stepBy l i c s o) t c′ s′ → Passing l c₀ s₀ c′
           s′ (i + 1)
       by-cases (Set o) e z =
           rw (z .card, z .sums)
@@ -119,7 +119,7 @@ module _ (l c₀ s₀ c s : List ℕ) (i : ℕ) (v : Passing l c₀ s₀ c s i) 
                 (settled-to l (below i) everyRow c s (v .working) i h o (sym e));
             left = sym (goes-on ∙ ap (λ (s : Settled). onSettled i s rest) e);
             card-length = putCardRow-length c i (shown o) ∙ v .card-length;
-            sums-length = pushed-length (rowAt l i) (shown o) s ∙ v .sums-length;
+            sums-length = pushed-length l (rowAt l i) (shown o) s ∙ v .sums-length;
           })
       by-cases (Unset why) e z = absurd (never-passed (sym p ∙ z .answer))
 

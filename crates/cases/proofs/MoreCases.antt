@@ -1,4 +1,4 @@
--- The second table holds, of the definitions that the contracts cite: every case computes to what document 01 says.
+-- The second table holds, of the definitions that the contracts cite: every case computes to what the documents say.
 use mathlib.Core.Path.{_≡_, refl}
 use mathlib.Core.List.{map}
 use Rattle.fold.specs.First.{first}
@@ -7,12 +7,13 @@ use Rattle.grid.specs.Grid.{count, valueAt, leastOn}
 use Rattle.layout.specs.Card.{putCardRow}
 use Rattle.layout.specs.Fields.{inBounds}
 use Rattle.rows.specs.Tests.{sizeTest, rowsTest, fieldRight, faultAfter, rowFault, feedsRight, treeAnswer, treeTest, fieldAnswer}
-use Rattle.settle.specs.Conditions.{returnsAfterSelfStart, clearOf, seesOwnZone, backsUp, withinDelays, margin, gradedAbove, staysClear, seesNear}
+use Rattle.settle.specs.Conditions.{returnsAfterSelfStart, clearOf, seesOwnZone, backsUp, withinDelays}
+use Rattle.settle.specs.Conditions.{margin, marginBetween, gradedAbove, staysClear, seesNear}
 use Rattle.settle.specs.Settle.{meetsPickup, meetsDelay, fitting, cutoffOf, printed, shown, outcomeOf, settled}
 use Rattle.rowwise.specs.WorkOut.{onSettled, workOut, upFrom, onPassed}
 use Rattle.calculate.specs.Whole.{ending, calculation, whole}
 use Rattle.cases.specs.Case.{Worked, comes, worked}
-use Rattle.cases.specs.MoreCases.{plant, lent, plantCard, conditions, faults, ranges, replacements, moreTable}
+use Rattle.cases.specs.MoreCases.{plant, lent, plantCard, chain, chainCard, conditions, faults, ranges, replacements, gradings, moreTable}
 use Rattle.path.specs.Path.{pathFrom, pathOf}
 use Rattle.change.specs.Edit.{putList, editRight, editTest}
 use Rattle.change.specs.Replace.{reworked, outcome, replaced}
@@ -20,7 +21,8 @@ use Rattle.path.specs.CardTest.{cardRight, cardAnswer, cardTest}
 
 pub more-cases : map (λ (w : Worked). comes (w .case)) moreTable ≡ map (λ (w : Worked). w .is) moreTable
 unfolding first sumTo every count valueAt leastOn sizeTest rowsTest inBounds fieldRight faultAfter rowFault feedsRight treeAnswer treeTest fieldAnswer
-    returnsAfterSelfStart clearOf seesOwnZone backsUp withinDelays margin gradedAbove staysClear seesNear meetsPickup meetsDelay fitting cutoffOf
+    returnsAfterSelfStart clearOf seesOwnZone backsUp withinDelays margin marginBetween gradedAbove staysClear seesNear meetsPickup meetsDelay fitting cutoffOf
     printed shown outcomeOf settled putCardRow onSettled workOut upFrom ending calculation whole comes worked moreTable conditions faults ranges
-    replacements plant lent plantCard pathFrom pathOf putList editRight editTest cardRight cardAnswer cardTest onPassed reworked outcome replaced
+    replacements gradings plant lent plantCard chain chainCard pathFrom pathOf putList editRight editTest cardRight cardAnswer cardTest onPassed
+    reworked outcome replaced
 more-cases = refl

@@ -1,10 +1,10 @@
--- [01 §7] The starred cases, as one table. Definitions only.
+-- [01 §7] The starred cases, as one table, with those of [02 §5]. Definitions only.
 use mathlib.Core.Bool.{Bool, true, false}
 use mathlib.Core.List.{List, [], _∷_}
 use Prim.Native.Nat.{ℕ, zero, suc, _+_}
 use lib.ListN.{set}
 use Rattle.layout.specs.Counts.{fieldCount}
-use Rattle.layout.specs.Fields.{atWork, atFar, atNear, atCeiling}
+use Rattle.layout.specs.Fields.{atWork, atFar, atNear, atDevice, atCeiling}
 use Rattle.layout.specs.View.{Settings}
 use Rattle.cases.specs.Case.{Worked, worked}
 use Rattle.cases.specs.Case.Case.{calculates, replaces, clears}
@@ -22,7 +22,7 @@ twoRows =
 unfoldable pub firstRow : ℕ → ℕ → List ℕ
 firstRow work far = 1 ∷ 2 ∷ 1 ∷ 35000 ∷ work ∷ 1500 ∷ 935 ∷ far ∷ 1000000 ∷ 1800000 ∷ 1300 ∷ 50000 ∷ 5000000 ∷ 1000 ∷ 1 ∷ 1900 ∷ 5000 ∷ 1 ∷ []
 
--- fields by their place in that list: work of row 1; far, near and ceiling of row 2
+-- fields by their place in that list: work of row 1; far, near, device and ceiling of row 2
 abbrev pub work1 : ℕ
 work1 = atWork
 
@@ -31,6 +31,9 @@ far2 = fieldCount + atFar
 
 abbrev pub near2 : ℕ
 near2 = fieldCount + atNear
+
+abbrev pub device2 : ℕ
+device2 = fieldCount + atDevice
 
 abbrev pub ceiling2 : ℕ
 ceiling2 = fieldCount + atCeiling
@@ -54,6 +57,10 @@ blank = 0 ∷ 0 ∷ 0 ∷ 0 ∷ 0 ∷ 0 ∷ []
 -- the card of the list of section 6
 unfoldable pub twoCard : List ℕ
 twoCard = 318000 ∷ 1900 ∷ 1300000 ∷ 360000 ∷ 2200 ∷ 4290000 ∷ []
+
+-- its card with device 2 in row 2: 1,900 + 500
+unfoldable pub laterCard : List ℕ
+laterCard = 318000 ∷ 1900 ∷ 1300000 ∷ 360000 ∷ 2400 ∷ 4290000 ∷ []
 
 -- the list done with this card, or refused with this number at this row
 abbrev done : List ℕ → List ℕ → Worked
@@ -83,4 +90,7 @@ table =
     ∷ heldTo 100000 101000 209000 true
     ∷ heldTo 100000 101000 208999 false
     ∷ heldTo 100000 101000 122100 false
+    ∷ done (set twoRows device2 2) laterCard
+    ∷ done (set (set twoRows device2 2) ceiling2 2400) laterCard
+    ∷ refused (set (set twoRows device2 2) ceiling2 2399) 7 2
     ∷ []

@@ -1,5 +1,5 @@
--- [01 §2, §3, §4] Worked cases beside the starred ones: kinds 2 and 3, devices 2 and 3, unequal volts, every refusal number, and
--- pairs of faults that show the order. The numbers were worked out from document 01 by hand. Rows, fields and places are
+-- [01 §2, §3, §4], [02 §5] Worked cases beside the starred ones: kinds 2 and 3, devices 2 and 3, unequal volts, every refusal number, and
+-- pairs of faults that show the order. The numbers were worked out from the documents by hand. Rows, fields and places are
 -- counted from 1, as there. Definitions only.
 use mathlib.Core.List.{List, [], _∷_, _++_}
 use Prim.Native.Nat.{ℕ, _+_, _-_, _*_}
@@ -11,7 +11,7 @@ use Rattle.cases.specs.Case.Comes.{calculated, replacing}
 
 -- A line (10,000 V, device 2, backed) and a motor (6,000 V, device 3, not backed), both fed by a transformer (25,000 V).
 -- Row 3 by P2 above row 2: 10 × 152,900 × 25,000 = 11 × (412,500 × 6,000 + 100,000 × 10,000); above row 1 less. By P3:
--- 10 × 229,350 = 15 × 152,900. By P4: 10 × 458,700 × 10,000 = 12 × 152,900 × 25,000. By D2: 0 + 500, not 100 + 200.
+-- 10 × 229,350 = 15 × 152,900. By P4: 10 × 458,700 × 10,000 = 12 × 152,900 × 25,000. By D2: 0 + 500, not 100 + 300.
 unfoldable pub plant : List ℕ
 plant =
     1 ∷ 3 ∷ 1 ∷ 10000 ∷ 100000 ∷ 1500 ∷ 1000 ∷ 458700 ∷ 500000 ∷ 726000 ∷ 1200 ∷ 5000 ∷ 1005000 ∷ 10000 ∷ 2 ∷ 0 ∷ 1000 ∷ 1 ∷
@@ -63,10 +63,10 @@ conditions =
     ∷ refused (with (with plant 2 18 1) 2 8 764499) 6 3 0
     -- the line not backed needs no such far
     ∷ done (with (with plant 1 18 0) 1 8 458699) plantCard
-    -- D2: the devices of the fed rows
+    -- D2: the devices of the fed rows, 0 + 500 above row 1; with device 1 there, 100 + 300 above row 2, by row 3's own device
     ∷ refused (with plant 3 17 499) 7 3 0
-    ∷ done (with (with plant 1 15 1) 3 17 300) (cardOf 152900 300 302900)
-    ∷ refused (with (with plant 1 15 1) 3 17 299) 7 3 0
+    ∷ done (with (with plant 1 15 1) 3 17 400) (cardOf 152900 400 302900)
+    ∷ refused (with (with plant 1 15 1) 3 17 399) 7 3 0
     ∷ done (with (with plant 2 15 2) 3 17 600) (cardOf 152900 600 302900)
     -- D1: a motor's 100
     ∷ refused (with plant 2 17 99) 7 2 0
@@ -191,5 +191,56 @@ replacements =
     ∷ kept plantCard 3 (row 3 (with plant 3 17 499)) 7 3 0
     ∷ []
 
+-- A chain of three lines with these devices, the first with a delay of 100. Each pickup is 1.1 times the work, and by P2 1.1 times
+-- the pickup below.
+abbrev link : ℕ → ℕ → ℕ → ℕ → ℕ → List ℕ → List ℕ
+link n feeder work device floor rest =
+    n ∷ feeder ∷ 1 ∷ 10000 ∷ work ∷ 1000 ∷ 1000 ∷ 1000000 ∷ 500000 ∷ 600000 ∷ 1000 ∷ 10000 ∷ 10000000 ∷ 100 ∷ device ∷ floor ∷
+    2000 ∷ 0 ∷ rest
+
+unfoldable pub chain : ℕ → ℕ → ℕ → List ℕ
+chain d₁ d₂ d₃ = link 1 2 100000 d₁ 100 (link 2 3 110000 d₂ 0 (link 3 0 121000 d₃ 0 []))
+
+-- its card, the delays of the second and the third row being these
+unfoldable pub chainCard : ℕ → ℕ → List ℕ
+chainCard t₂ t₃ = 110000 ∷ 100 ∷ 500000 ∷ 121000 ∷ t₂ ∷ 500000 ∷ 133100 ∷ t₃ ∷ 500000 ∷ 77 ∷ []
+
+-- row n of a list and card replaced by that of another list, which is then the list; or refused with a number at a row
+abbrev becomes : List ℕ → List ℕ → ℕ → List ℕ → List ℕ → Worked
+becomes l c n l′ c′ = worked (replaces l c n (row n l′)) (replacing (0 ∷ 0 ∷ 0 ∷ []) l′ c′)
+
+abbrev stays : List ℕ → List ℕ → ℕ → List ℕ → ℕ → ℕ → Worked
+stays l c n l′ number at = worked (replaces l c n (row n l′)) (replacing (number ∷ at ∷ 0 ∷ []) l c)
+
+-- D2 takes the larger of the two rows' steps
+unfoldable pub gradings : List Worked
+gradings =
+    done (chain 1 1 1) (chainCard 400 700)
+    ∷ done (chain 2 1 1) (chainCard 600 900)
+    ∷ done (chain 1 2 1) (chainCard 600 1100)
+    ∷ done (chain 1 1 2) (chainCard 400 900)
+    ∷ done (chain 1 3 1) (chainCard 400 700)
+    ∷ done (chain 3 1 3) (chainCard 400 700)
+    ∷ done (chain 3 3 1) (chainCard 300 600)
+    ∷ done (chain 1 3 3) (chainCard 400 600)
+    ∷ done (chain 3 3 3) (chainCard 300 500)
+    ∷ done (chain 2 3 2) (chainCard 600 1100)
+    -- the second row replaced, by its device alone: downward its own delay, upward its feeder's; and back
+    ∷ becomes (chain 1 1 1) (chainCard 400 700) 2 (chain 1 2 1) (chainCard 600 1100)
+    ∷ becomes (chain 1 2 1) (chainCard 600 1100) 2 (chain 1 3 1) (chainCard 400 700)
+    -- the first: only upward; the third: only downward
+    ∷ becomes (chain 1 1 1) (chainCard 400 700) 1 (chain 2 1 1) (chainCard 600 900)
+    ∷ becomes (chain 1 1 1) (chainCard 400 700) 3 (chain 1 1 2) (chainCard 400 900)
+    -- the second with floor 600: its own card row stays, and its feeder's does not
+    ∷ becomes (with (chain 1 1 1) 2 16 600) (chainCard 600 900) 2 (with (chain 1 2 1) 2 16 600) (chainCard 600 1100)
+    -- a card that does not belong to the list: 250 is found in the first row
+    ∷ becomes (chain 1 1 1) (set (chainCard 9 9) 1 250) 2 (chain 1 2 1) (set (chainCard 750 1250) 1 250)
+    -- at the ceiling and one off, in the row itself and in its feeder
+    ∷ becomes (chain 1 1 1) (chainCard 400 700) 2 (with (chain 1 2 1) 2 17 600) (chainCard 600 1100)
+    ∷ stays (chain 1 1 1) (chainCard 400 700) 2 (with (chain 1 2 1) 2 17 599) 7 2
+    ∷ becomes (with (chain 1 1 1) 3 17 1100) (chainCard 400 700) 2 (with (chain 1 2 1) 3 17 1100) (chainCard 600 1100)
+    ∷ stays (with (chain 1 1 1) 3 17 1099) (chainCard 400 700) 2 (with (chain 1 2 1) 3 17 1099) 7 3
+    ∷ []
+
 unfoldable pub moreTable : List Worked
-moreTable = conditions ++ (faults ++ (ranges ++ replacements))
+moreTable = conditions ++ (faults ++ (ranges ++ (replacements ++ gradings)))

@@ -76,7 +76,7 @@ module _ (l : List ℕ) (i : ℕ) (c s : List ℕ) (r : ClimbReady l i c s) wher
     climb-refused a e = rw goes-on (by-cases (settledBy (rowAt l i) (fedAt s i)) z)
       where
         by-cases :
-            (o : Settled) → Stepped (stepBy (rowAt l i) i c s o) t c′ s′ →
+            (o : Settled) → Stepped (stepBy l i c s o) t c′ s′ →
             Reworked (onSettled i o (λ k. workOut l above (putCardRow c i k))) c (Refused a) c′
         by-cases (Set o) z = absurd (never-passed (sym (z .answer) ∙ e))
         by-cases (Unset why) z = record { answer = sym e ∙ z .answer; card = z .card }
@@ -86,14 +86,14 @@ module _ (l : List ℕ) (i : ℕ) (c s : List ℕ) (r : ClimbReady l i c s) wher
       settings : CardRow
       bounded : CardBounded settings
       card : c′ ≡ putCardRow c i settings
-      sums : s′ ≡ pushed (rowAt l i) settings s
+      sums : s′ ≡ pushed l (rowAt l i) settings s
       rest : workOut l (pathOf l i) c ≡ workOut l above (putCardRow c i settings)
 
     passes : t ≡ Passed → Passes
     unfolding step stepBy onSettled
     passes e = by-cases (settledBy (rowAt l i) (fedAt s i)) refl z
       where
-        by-cases : (o : Settled) → settledBy (rowAt l i) (fedAt s i) ≡ o → Stepped (stepBy (rowAt l i) i c s o) t c′ s′ → Passes
+        by-cases : (o : Settled) → settledBy (rowAt l i) (fedAt s i) ≡ o → Stepped (stepBy l i c s o) t c′ s′ → Passes
         by-cases (Set o) q z =
             record {
               settings = shown o;
@@ -138,7 +138,7 @@ module _ (l : List ℕ) (i : ℕ) (c s : List ℕ) (r : ClimbReady l i c s) wher
             let p = passes e in
             let k = fed-climbs l (r .working .feeds) i (r .is-row) fed in
             subst (λ (x : List ℕ). ClimbReady l (f - 1) c′ x) (sym (p .sums))
-            (subst (λ (x : List ℕ). ClimbReady l (f - 1) x (pushed (rowAt l i) (p .settings) s)) (sym (p .card))
+            (subst (λ (x : List ℕ). ClimbReady l (f - 1) x (pushed l (rowAt l i) (p .settings) s)) (sym (p .card))
             (record {
               is-row = rw ef (k .within);
               working =

@@ -101,7 +101,7 @@ module _ (l : List ℕ) (i : ℕ) (c s₀ : List ℕ) (a : RestReady l i c s₀)
           }
 
       pub rest-push :
-          (s′ : List ℕ) (next′ : ℕ) → s′ ≡ pushed (rowAt l j) (cardRowAt c j) s → next′ ≡ next → Resting l i c s₀ s′ next′ (j + 1)
+          (s′ : List ℕ) (next′ : ℕ) → s′ ≡ pushed l (rowAt l j) (cardRowAt c j) s → next′ ≡ next → Resting l i c s₀ s′ next′ (j + 1)
       rest-push s′ next′ e en =
           rw (e, en)
           (record {
@@ -111,7 +111,7 @@ module _ (l : List ℕ) (i : ℕ) (c s₀ : List ℕ) (a : RestReady l i c s₀)
                 (rw (le-ltb j j (omega arith))) (rest l i (j + 1)) (λ k. rest-next k ∙ rw (off, and-true (eqb k j)));
             not-passed = omega (arith, v .not-passed);
             left = λ k b. v .left k (omega arith);
-            sums-length = pushed-length (rowAt l j) (cardRowAt c j) s ∙ v .sums-length;
+            sums-length = pushed-length l (rowAt l j) (cardRowAt c j) s ∙ v .sums-length;
           })
 
   -- all rows are passed

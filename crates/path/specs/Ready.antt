@@ -25,7 +25,7 @@ pub record ClimbReady (l : List ℕ) (i : ℕ) (c s : List ℕ) : Type 0 where
 pub record FoundReady (l : List ℕ) (j : ℕ) (c s : List ℕ) : Type 0 where
   pub in-list : j * fieldCount + fieldCount ≤ length l
   pub in-card : j * columnCount + columnCount ≤ length c
-  pub push : PushReady (rowAt l j) (cardRowAt c j) s
+  pub push : PushReady l (rowAt l j) (cardRowAt c j) s
 
 -- row i of a list of the right size, with room on the card
 pub record ReworkReady (l : List ℕ) (i : ℕ) (c : List ℕ) : Type 0 where

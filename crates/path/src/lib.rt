@@ -88,10 +88,10 @@ fn above(list: &[u64], j: usize) -> usize
 // Adds what row j asks with the numbers found on the card.
 fn push_found(list: &[u64], j: usize, card: &[u64], sums: &mut [u64])
     requires { ⌜ FoundReady (now list) j (now card) (now sums) ⌝ }
-    ensures { λ _. ⌜ now (sums .exit) ≡ pushed (rowAt (now (list .entry)) j) (cardRowAt (now (card .entry)) j) (now (sums .entry)) ⌝ }
+    ensures { λ _. ⌜ now (sums .exit) ≡ pushed (now (list .entry)) (rowAt (now (list .entry)) j) (cardRowAt (now (card .entry)) j) (now (sums .entry)) ⌝ }
 {
     let k = card_row_at(card, j);
-    push(row_at(list, j), k, sums);
+    push(list, row_at(list, j), k, sums);
 }
 
 // Adds what every row off the path of row i asks. The rows of a path ascend: `next` is the next of them.

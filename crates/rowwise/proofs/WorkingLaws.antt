@@ -25,7 +25,8 @@ use Rattle.settle.specs.Conditions.{fed, loadOf}
 use Rattle.settle.specs.Fed.{reach, excess, shortfall, earliest, asked, settledBy, FedBounded, CardBounded}
 use Rattle.settle.specs.Settle.{shown, settled}
 use Rattle.settle.proofs.FedLaws.{settled-by}
-use Rattle.settle.proofs.OutcomeLaws.{set-bounded, margin-to}
+use Rattle.settle.proofs.MarginLaws.{between-to}
+use Rattle.settle.proofs.OutcomeLaws.{set-bounded}
 use Rattle.settle.proofs.PickupLaws.{current-volts, load-bounded}
 use Rattle.rowwise.specs.Ready.{HasFeeder, WorkReady}
 use Rattle.rowwise.specs.Sums.{fedAt, putFed, joined, pushed}
@@ -53,8 +54,8 @@ module _ (l : List ℕ) (done matters : ℕ → Bool) (c s : List ℕ) (w : Work
       let q = w .in-range j b .bounded in
       omega (arith, current-volts (w .settings-to j b g .pickup-to) (q .volts-to))
 
-  earliest-to : (j : ℕ) → j < rows l → done j ≡ true → earliest (rowAt l j) (cardRowAt c j) ≤ 100500
-  earliest-to j b g = omega (arith, w .settings-to j b g .delay-to, margin-to (rowAt l j .device))
+  earliest-to : (d j : ℕ) → j < rows l → done j ≡ true → earliest d (rowAt l j) (cardRowAt c j) ≤ 100500
+  earliest-to d j b g = omega (arith, w .settings-to j b g .delay-to, between-to d (rowAt l j .device))
 
   gathered-bounded : (k : ℕ) → FedBounded (gatheredBy done (viewOf l) (cardRowAt c) k)
   gathered-bounded k =
@@ -71,7 +72,7 @@ module _ (l : List ℕ) (done matters : ℕ → Bool) (c s : List ℕ) (w : Work
             maxTo-bound _ reach (rows l) (λ j b. counted-to (done j && fed (viewOf l) k j) _ _ (λ _. shortfall-to (rowAt l j)));
         earliest-to =
             maxTo-bound _ 100500 (rows l)
-            (λ j b. counted-to (done j && fed (viewOf l) k j) _ _ (λ t. earliest-to j b (and-left (done j) (fed (viewOf l) k j) t)));
+            (λ j b. counted-to (done j && fed (viewOf l) k j) _ _ (λ t. earliest-to (rowAt l k .device) j b (and-left (done j) (fed (viewOf l) k j) t)));
       }
 
   pub sums-bounded : (i : ℕ) → i < rows l → matters i ≡ true → FedBounded (fedAt s i)
@@ -87,9 +88,10 @@ module _ (l : List ℕ) (done matters : ℕ → Bool) (c s : List ℕ) (w : Work
 
   -- row i, whose feeder matters
   module _ (i : ℕ) (h : i < rows l) (f : 1 ≤ rowAt l i .feeder → matters (rowAt l i .feeder - 1) ≡ true) where
-    pub has-feeder : HasFeeder (rowAt l i) s
+    pub has-feeder : HasFeeder l (rowAt l i) s
     has-feeder =
         record {
+          in-list = λ q. let b = feeder-within i h q in omega arith;
           has-place = λ q. omega (arith, w .sums-room, feeder-within i h q);
           load-fits = λ q. sums-bounded (rowAt l i .feeder - 1) (feeder-within i h q) (f q) .load-to;
         }
@@ -116,7 +118,7 @@ module _ (l : List ℕ) (done matters : ℕ → Bool) (c s : List ℕ) (w : Work
       (sumTo-same _ _ (rows l) (λ j b. counted-all (done j) (fed (viewOf l) i j) (loadOf (viewOf l) j) (all j b)))
       (maxTo-same _ _ (rows l) (λ j b. counted-all (done j) (fed (viewOf l) i j) (excess (rowAt l j) (cardRowAt c j)) (all j b)))
       (maxTo-same _ _ (rows l) (λ j b. counted-all (done j) (fed (viewOf l) i j) (shortfall (rowAt l j)) (all j b)))
-      (maxTo-same _ _ (rows l) (λ j b. counted-all (done j) (fed (viewOf l) i j) (earliest (rowAt l j) (cardRowAt c j)) (all j b)))) ∙
+      (maxTo-same _ _ (rows l) (λ j b. counted-all (done j) (fed (viewOf l) i j) (earliest (rowAt l i .device) (rowAt l j) (cardRowAt c j)) (all j b)))) ∙
       settled-by (viewOf l) (λ j b. w .in-range j b .bounded) (cardRowAt c) i h
 
   pub settled-to : (i : ℕ) → i < rows l → (o : Outcome) → Set o ≡ settledBy (rowAt l i) (fedAt s i) → CardBounded (shown o)
@@ -127,6 +129,10 @@ module _ (l : List ℕ) (done matters : ℕ → Bool) (c s : List ℕ) (w : Work
       (matters′ : ℕ → Bool) (weaker : (j : ℕ) → matters′ j ≡ true → matters j ≡ true) (k : CardRow) (to : CardBounded k) where
     r : Row
     r = rowAt l i
+
+    -- what row i asks of row x
+    asks : ℕ → Fed
+    asks x = asked (rowAt l x .device) r k
 
     c′ : List ℕ
     c′ = putCardRow c i k
@@ -149,25 +155,26 @@ module _ (l : List ℕ) (done matters : ℕ → Bool) (c s : List ℕ) (w : Work
     gather-next :
         (x : ℕ) → after x
         ≡ record {
-          load = before x .load + cond (fed (viewOf l) x i) (asked r k .load) 0;
-          excess = max (before x .excess) (cond (fed (viewOf l) x i) (asked r k .excess) 0);
-          shortfall = max (before x .shortfall) (cond (fed (viewOf l) x i) (asked r k .shortfall) 0);
-          earliest = max (before x .earliest) (cond (fed (viewOf l) x i) (asked r k .earliest) 0);
+          load = before x .load + cond (fed (viewOf l) x i) (asks x .load) 0;
+          excess = max (before x .excess) (cond (fed (viewOf l) x i) (asks x .excess) 0);
+          shortfall = max (before x .shortfall) (cond (fed (viewOf l) x i) (asks x .shortfall) 0);
+          earliest = max (before x .earliest) (cond (fed (viewOf l) x i) (asks x .earliest) 0);
         }
-    unfolding r before after
+    unfolding r asks before after
     gather-next x =
         let on = fed (viewOf l) x in
+        let d = rowAt l x .device in
         same-fed
         (sum-next (rows l) i h done done′ new next on (loadOf (viewOf l)) (loadOf (viewOf l)) (λ j n. refl))
         (max-next (rows l) i h done done′ new next on (λ j. excess (rowAt l j) (cardRowAt c j)) (λ j. excess (rowAt l j) (cardRowAt c′ j))
         (λ j n. ap (excess (rowAt l j)) (other j n)) ∙
         ap (λ (y : CardRow). max (before x .excess) (cond (on i) (excess (rowAt l i) y) 0)) own)
         (max-next (rows l) i h done done′ new next on (λ j. shortfall (rowAt l j)) (λ j. shortfall (rowAt l j)) (λ j n. refl))
-        (max-next (rows l) i h done done′ new next on (λ j. earliest (rowAt l j) (cardRowAt c j)) (λ j. earliest (rowAt l j) (cardRowAt c′ j))
-        (λ j n. ap (earliest (rowAt l j)) (other j n)) ∙
-        ap (λ (y : CardRow). max (before x .earliest) (cond (on i) (earliest (rowAt l i) y) 0)) own)
+        (max-next (rows l) i h done done′ new next on (λ j. earliest d (rowAt l j) (cardRowAt c j)) (λ j. earliest d (rowAt l j) (cardRowAt c′ j))
+        (λ j n. ap (earliest d (rowAt l j)) (other j n)) ∙
+        ap (λ (y : CardRow). max (before x .earliest) (cond (on i) (earliest d (rowAt l i) y) 0)) own)
 
-    gather-fed : (x : ℕ) → fed (viewOf l) x i ≡ true → joined (before x) (asked r k) ≡ after x
+    gather-fed : (x : ℕ) → fed (viewOf l) x i ≡ true → joined (before x) (asks x) ≡ after x
     gather-fed x g = sym (gather-next x ∙ rw g)
 
     gather-unfed : (x : ℕ) → fed (viewOf l) x i ≡ false → before x ≡ after x
@@ -175,7 +182,7 @@ module _ (l : List ℕ) (done matters : ℕ → Bool) (c s : List ℕ) (w : Work
 
     -- the feeder's numbers joined with what row i asks
     for-feeder : Fed
-    for-feeder = joined (fedAt s (r .feeder - 1)) (asked r k)
+    for-feeder = joined (fedAt s (r .feeder - 1)) (asks (r .feeder - 1))
 
     module _ (x : ℕ) (b : x < rows l) (m : matters x ≡ true) where
       is-before : fedAt s x ≡ before x
@@ -187,29 +194,29 @@ module _ (l : List ℕ) (done matters : ℕ → Bool) (c s : List ℕ) (w : Work
       at-feeder n0 g =
           let e : r .feeder - 1 ≡ x = omega (arith, eqb-true (r .feeder) (x + 1) g) in
           rw e
-          (putFed-own s x _ (omega (arith, w .sums-room)) ∙ ap (λ (f : Fed). joined f (asked r k)) is-before ∙ gather-fed x g)
+          (putFed-own s x _ (omega (arith, w .sums-room)) ∙ ap (λ (f : Fed). joined f (asks x)) is-before ∙ gather-fed x g)
 
       elsewhere : (r .feeder ≡ 0 → ⊥) → fed (viewOf l) x i ≡ false → fedAt (putFed s (r .feeder - 1) for-feeder) x ≡ after x
       unfolding r
       elsewhere n0 g =
           putFed-other s (r .feeder - 1) _ x (λ e. eqb-false (r .feeder) (x + 1) g (omega arith)) ∙ is-before ∙ gather-unfed x g
 
-      summed-next : fedAt (pushed r k s) x ≡ after x
-      unfolding r for-feeder
+      summed-next : fedAt (pushed l r k s) x ≡ after x
+      unfolding r asks for-feeder
       summed-next =
           ⊎-elim
           (λ (z : eqb (r .feeder) 0 ≡ true).
           let f0 = eqb-true (r .feeder) 0 z in
-          ap (λ (s : List ℕ). fedAt s x) (sym (pushed-source r k s f0)) ∙ is-before ∙
+          ap (λ (s : List ℕ). fedAt s x) (sym (pushed-source l r k s f0)) ∙ is-before ∙
           gather-unfed x (ne-eqb (r .feeder) (x + 1) (λ e. omega arith)))
           (λ (z : eqb (r .feeder) 0 ≡ false).
           let n0 = eqb-false (r .feeder) 0 z in
           ap (λ (s : List ℕ). fedAt s x)
-          (sym (pushed-feeder r k s (fedAt s (r .feeder - 1)) (asked r k) for-feeder n0 refl refl refl)) ∙
+          (sym (pushed-feeder l r k s (fedAt s (r .feeder - 1)) (asks (r .feeder - 1)) for-feeder n0 refl refl refl)) ∙
           ⊎-elim (at-feeder n0) (elsewhere n0) (passes-or-fails (eqb (r .feeder) (x + 1))))
           (passes-or-fails (eqb (r .feeder) 0))
 
-    pub work-next : Working l done′ matters′ (putCardRow c i k) (pushed (rowAt l i) k s)
+    pub work-next : Working l done′ matters′ (putCardRow c i k) (pushed l (rowAt l i) k s)
     unfolding c′ r after
     work-next =
         record {
@@ -217,7 +224,7 @@ module _ (l : List ℕ) (done matters : ℕ → Bool) (c s : List ℕ) (w : Work
           in-range = w .in-range;
           feeds = w .feeds;
           card-room = rw (putCardRow-length c i k) (w .card-room);
-          sums-room = rw (pushed-length (rowAt l i) k s) (w .sums-room);
+          sums-room = rw (pushed-length l (rowAt l i) k s) (w .sums-room);
           settings-to =
               λ j b g.
               ⊎-elim

@@ -12,16 +12,17 @@ use Rattle.layout.specs.Range.{Bounded}
 use Rattle.settle.specs.Fed.{FedBounded, CardBounded}
 use Rattle.rowwise.specs.Sums.{askCount, fedAt, Step}
 
--- a row's feeder has its place in the sums, and a load more does not overflow there
-pub record HasFeeder (r : Row) (s : List ℕ) : Type 0 where
+-- a row's feeder has its place in the list and in the sums, and a load more does not overflow there
+pub record HasFeeder (l : List ℕ) (r : Row) (s : List ℕ) : Type 0 where
+  pub in-list : 1 ≤ r .feeder → (r .feeder - 1) * fieldCount + fieldCount ≤ length l
   pub has-place : 1 ≤ r .feeder → (r .feeder - 1) * askCount + askCount ≤ length s
   pub load-fits : 1 ≤ r .feeder → fedAt s (r .feeder - 1) .load ≤ 12800000000000000
 
 -- what a row with these settings asks can be added for its feeder
-pub record PushReady (r : Row) (k : CardRow) (s : List ℕ) : Type 0 where
+pub record PushReady (l : List ℕ) (r : Row) (k : CardRow) (s : List ℕ) : Type 0 where
   pub bounded : Bounded r
   pub settings : CardBounded k
-  pub feeder : HasFeeder r s
+  pub feeder : HasFeeder l r s
 
 -- row i can be worked out
 pub record WorkReady (l : List ℕ) (i : ℕ) (c s : List ℕ) : Type 0 where
@@ -30,7 +31,7 @@ pub record WorkReady (l : List ℕ) (i : ℕ) (c s : List ℕ) : Type 0 where
   pub in-sums : i * askCount + askCount ≤ length s
   pub bounded : Bounded (rowAt l i)
   pub fed-bounded : FedBounded (fedAt s i)
-  pub feeder : HasFeeder (rowAt l i) s
+  pub feeder : HasFeeder l (rowAt l i) s
 
 -- the answer, the card and the sums are the step's
 pub record Stepped (z : Step) (t : Tested) (c s : List ℕ) : Type 0 where

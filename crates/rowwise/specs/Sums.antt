@@ -47,9 +47,12 @@ joined a b =
       earliest = max (a .earliest) (b .earliest);
     }
 
--- what row r with the settings k asks is added for the row that feeds it
-unfoldable pub pushed : Row → CardRow → List ℕ → List ℕ
-pushed r k s = cond (eqb (r .feeder) 0) s (putFed s (r .feeder - 1) (joined (fedAt s (r .feeder - 1)) (asked r k)))
+-- what row r of the list l with the settings k asks of the row that feeds it, and that added for it
+abbrev pub askedAbove : List ℕ → Row → CardRow → Fed
+askedAbove l r k = asked (rowAt l (r .feeder - 1) .device) r k
+
+unfoldable pub pushed : List ℕ → Row → CardRow → List ℕ → List ℕ
+pushed l r k s = cond (eqb (r .feeder) 0) s (putFed s (r .feeder - 1) (joined (fedAt s (r .feeder - 1)) (askedAbove l r k)))
 
 -- one row worked out by the four numbers: the answer, the card and the numbers afterwards
 pub record Step : Type 0 where
@@ -57,9 +60,9 @@ pub record Step : Type 0 where
   pub card : List ℕ
   pub sums : List ℕ
 
-unfoldable pub stepBy : Row → ℕ → List ℕ → List ℕ → Settled → Step
-stepBy r i c s (Set o) = record { tested = Passed; card = putCardRow c i (shown o); sums = pushed r (shown o) s }
-stepBy r i c s (Unset why) = record { tested = Refused (Unsettled (i + 1) why); card = c; sums = s }
+unfoldable pub stepBy : List ℕ → ℕ → List ℕ → List ℕ → Settled → Step
+stepBy l i c s (Set o) = record { tested = Passed; card = putCardRow c i (shown o); sums = pushed l (rowAt l i) (shown o) s }
+stepBy l i c s (Unset why) = record { tested = Refused (Unsettled (i + 1) why); card = c; sums = s }
 
 unfoldable pub step : List ℕ → ℕ → List ℕ → List ℕ → Step
-step l i c s = stepBy (rowAt l i) i c s (settledBy (rowAt l i) (fedAt s i))
+step l i c s = stepBy l i c s (settledBy (rowAt l i) (fedAt s i))

@@ -25,7 +25,7 @@ gatheredBy done v k i =
       load = sumTo (v .count) (λ j. cond (done j && fed v i j) (loadOf v j) 0);
       excess = maxTo (v .count) (λ j. cond (done j && fed v i j) (excess (v .row j) (k j)) 0);
       shortfall = maxTo (v .count) (λ j. cond (done j && fed v i j) (shortfall (v .row j)) 0);
-      earliest = maxTo (v .count) (λ j. cond (done j && fed v i j) (earliest (v .row j) (k j)) 0);
+      earliest = maxTo (v .count) (λ j. cond (done j && fed v i j) (earliest (v .row i .device) (v .row j) (k j)) 0);
     }
 
 -- every row matters

@@ -4,9 +4,11 @@ use answers::Answer;
 use answers::Tested;
 use blocks::put;
 use grid::greater;
+use layout::AT_DEVICE;
 use layout::CardRow;
 use layout::ROWS;
 use layout::Row;
+use layout::field_at;
 use layout::put_card_row;
 use layout::row_at;
 use settle::Fed;
@@ -58,16 +60,17 @@ fn join(a: Fed, b: Fed) -> Fed
     }
 }
 
-// Adds what a row with these settings asks for the row that feeds it.
-pub fn push(r: Row, k: CardRow, sums: &mut [u64])
-    requires { ⌜ PushReady r k (now sums) ⌝ }
-    ensures { λ _. ⌜ now (sums .exit) ≡ pushed r k (now (sums .entry)) ⌝ }
+// Adds what a row with these settings asks for the row that feeds it. That row's device is read at its place in the list.
+pub fn push(list: &[u64], r: Row, k: CardRow, sums: &mut [u64])
+    requires { ⌜ PushReady (now list) r k (now sums) ⌝ }
+    ensures { λ _. ⌜ now (sums .exit) ≡ pushed (now (list .entry)) r k (now (sums .entry)) ⌝ }
 {
     if r.feeder == 0 {
         return;
     }
     let at = (r.feeder - 1) as usize;
-    let f = join(fed_at(sums, at), asks(r, k));
+    let asked = asks(field_at(list, at, AT_DEVICE), r, k);
+    let f = join(fed_at(sums, at), asked);
     put_fed(sums, at, f);
 }
 
@@ -82,7 +85,7 @@ pub fn work_row(list: &[u64], i: usize, card: &mut [u64], sums: &mut [u64]) -> T
         Settled::Set(o) => {
             let k = card_row(o);
             put_card_row(card, i, k);
-            push(r, k, sums);
+            push(list, r, k, sums);
             Tested::Passed
         }
     }

@@ -3,6 +3,7 @@ use mathlib.Core.Path.{_≡_, refl}
 use mathlib.Core.Bool.{true, false, not, cond, _||_}
 use mathlib.Core.Logic.{_↔_, ⊎-elim}
 use Prim.Native.Nat.{ℕ, _+_, _*_, _≤_}
+use native.Mathlib.Omega.{arith}
 use lib.Dec.{leb, eqb}
 use borrow.Author.Tests.{le-leb, leb-true, eq-eqb, ne-eqb, eqb-true, eqb-false}
 use Rattle.fold.proofs.BoolLaws.{passes-or-fails, and-left, and-right, and-both, implies, implied}
@@ -10,7 +11,7 @@ use Rattle.layout.specs.declared.CardRow.{CardRow}
 use Rattle.layout.specs.declared.Row.{Row}
 use Rattle.layout.specs.View.{View, Settings}
 use Rattle.settle.specs.Conditions.{fed, othersLoad, returnsAfterSelfStart, clearOf, seesOwnZone, backsUp}
-use Rattle.settle.specs.Conditions.{withinDelays, margin, gradedAbove, staysClear, seesNear}
+use Rattle.settle.specs.Conditions.{withinDelays, margin, marginBetween, gradedAbove, staysClear, seesNear}
 use Rattle.settle.specs.Inequalities.{SeesNear}
 
 -- a test of two numbers passes exactly where the one is at most the other
@@ -54,9 +55,15 @@ D1-exactly r t = (
       (and-both (le-leb t (r .ceiling) (h .1)) (implied (eqb (r .kind) 3) (leb 100 t) (λ k. le-leb 100 t (h .2 (eqb-true (r .kind) 3 k))))),
 )
 
-pub D2-exactly : (f : Row) (s : CardRow) (t : ℕ) → (gradedAbove f s t ≡ true) ↔ (s .delay + margin (f .device) ≤ t)
-unfolding gradedAbove
-D2-exactly f s t = at-most (s .delay + margin (f .device)) t
+-- [02 §5] the larger of the two rows' steps: the fed row's is kept, and the row's own
+pub D2-exactly :
+    (r f : Row) (s : CardRow) (t : ℕ) → (gradedAbove r f s t ≡ true) ↔
+    ((s .delay + margin (f .device) ≤ t) × (s .delay + margin (r .device) ≤ t))
+unfolding gradedAbove marginBetween
+D2-exactly r f s t = (
+  λ e. let later = leb-true (s .delay + marginBetween (r .device) (f .device)) t e in (omega arith, omega arith),
+  λ h. le-leb (s .delay + marginBetween (r .device) (f .device)) t (omega (arith, h .0, h .1)),
+)
 
 -- the step is 300, 500 or 200 for device 1, 2 or 3
 pub steps : (margin 1 ≡ 300) × (margin 2 ≡ 500) × (margin 3 ≡ 200)

@@ -144,29 +144,29 @@ module _ (v : View) (a : AllBounded v) (k : Settings) (i : ℕ) (h : i < v .coun
   backs-all I b = same-test _ _ (backs-each I) (λ t. unfold backsUpAll in le-leb _ _ (backs-greatest I b t))
 
   -- D2 for every fed row, and for the greatest earliest delay
-  pub graded-all : (t : ℕ) → leb (gathered v k i .earliest) t ≡ eachFed v i (λ j. gradedAbove (v .row j) (k j) t)
+  pub graded-all : (t : ℕ) → leb (gathered v k i .earliest) t ≡ eachFed v i (λ j. gradedAbove (v .row i) (v .row j) (k j) t)
   unfolding gradedAbove
   graded-all t =
       same-test _ _
       (λ e.
-      each-fed-of v i (λ j. gradedAbove (v .row j) (k j) t)
+      each-fed-of v i (λ j. gradedAbove (v .row i) (v .row j) (k j) t)
       (λ j b g.
-      le-leb (earliest (v .row j) (k j)) t
+      le-leb (earliest (v .row i .device) (v .row j) (k j)) t
       (omega (
         arith,
         leb-true (gathered v k i .earliest) t e,
-        le-maxTo (λ j. cond (fed v i j) (earliest (v .row j) (k j)) 0) (v .count) j b,
-        counted-fed (earliest (v .row j) (k j)) g,
+        le-maxTo (λ j. cond (fed v i j) (earliest (v .row i .device) (v .row j) (k j)) 0) (v .count) j b,
+        counted-fed (earliest (v .row i .device) (v .row j) (k j)) g,
       ))))
       (λ e.
       le-leb (gathered v k i .earliest) t
       (⊎-elim
       (λ z. omega arith)
       (λ m.
-      let c : earliest (v .row (m .at)) (k (m .at)) ≤ t = leb-true _ _
-      (each-fed-at v i (λ j. gradedAbove (v .row j) (k j) t) e (m .at) (m .below) (m .counts)) in
+      let c : earliest (v .row i .device) (v .row (m .at)) (k (m .at)) ≤ t = leb-true _ _
+      (each-fed-at v i (λ j. gradedAbove (v .row i) (v .row j) (k j) t) e (m .at) (m .below) (m .counts)) in
       omega (arith, m .is))
-      (greatest (fed v i) (λ j. earliest (v .row j) (k j)) (v .count))))
+      (greatest (fed v i) (λ j. earliest (v .row i .device) (v .row j) (k j)) (v .count))))
 
   -- a row settled by the four numbers is settled by section 3
   pub settled-by : settledBy (v .row i) (gathered v k i) ≡ settled v k i

@@ -2,6 +2,7 @@ pub mod Cases
 pub mod ConditionTheorems
 pub mod CutoffTheorems
 pub mod FedLaws
+pub mod MarginLaws
 pub mod MeetsTheorems
 pub mod PickupLaws
 pub mod OutcomeLaws

@@ -61,10 +61,10 @@ module _ (v : View) (k : Settings) (i : ℕ) where
           D1 = d;
           D2 =
               λ j b f.
-              D2-exactly (v .row j) (k j) t .0
-              (each-fed v i (λ j. gradedAbove (v .row j) (k j) t) .0 (and-right (withinDelays (v .row i) t) _ e) j b f);
+              D2-exactly (v .row i) (v .row j) (k j) t .0
+              (each-fed v i (λ j. gradedAbove (v .row i) (v .row j) (k j) t) .0 (and-right (withinDelays (v .row i) t) _ e) j b f);
         },
     λ h.
         and-both (D1-exactly (v .row i) t .1 (h .D1))
-        (each-fed v i (λ j. gradedAbove (v .row j) (k j) t) .1 (λ j b f. D2-exactly (v .row j) (k j) t .1 (h .D2 j b f))),
+        (each-fed v i (λ j. gradedAbove (v .row i) (v .row j) (k j) t) .1 (λ j b f. D2-exactly (v .row i) (v .row j) (k j) t .1 (h .D2 j b f))),
   )

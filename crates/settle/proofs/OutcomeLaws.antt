@@ -20,31 +20,9 @@ use Rattle.settle.specs.declared.Cutoff.the-variants.{Fitted, NotFitted}
 use Rattle.settle.specs.declared.Fed.{Fed}
 use Rattle.settle.specs.declared.Outcome.{Outcome}
 use Rattle.settle.specs.declared.Settled.the-variants.{Set, Unset}
-use Rattle.settle.specs.Conditions.{staysClear, seesNear, margin}
+use Rattle.settle.specs.Conditions.{staysClear, seesNear}
 use Rattle.settle.specs.Fed.{pickupBy, delayBy, settledBy, CardBounded}
 use Rattle.settle.specs.Settle.{leastPickup, leastDelay, fitting, cutoffOf, shown, outcomeOf}
-
-pub margin-1 : (d : ℕ) → d ≡ 1 → 300 ≡ margin d
-unfolding margin
-margin-1 d e = rw (eq-eqb d 1 e)
-
-pub margin-2 : (d : ℕ) → (d ≡ 1 → ⊥) → d ≡ 2 → 500 ≡ margin d
-unfolding margin
-margin-2 d n e = rw (ne-eqb d 1 n, eq-eqb d 2 e)
-
-pub margin-3 : (d : ℕ) → (d ≡ 1 → ⊥) → (d ≡ 2 → ⊥) → 200 ≡ margin d
-unfolding margin
-margin-3 d n m = rw (ne-eqb d 1 n, ne-eqb d 2 m)
-
--- no device asks for more than 500
-pub margin-to : (d : ℕ) → margin d ≤ 500
-unfolding margin
-margin-to d = by-cases (eqb d 1) (eqb d 2)
-  where
-    by-cases : (a b : Bool) → cond a 300 (cond b 500 200) ≤ 500
-    by-cases true b = omega arith
-    by-cases false true = omega arith
-    by-cases false false = omega arith
 
 module _ (r : Row) where
   pub sees-near-is : (k x : ℕ) → k ≡ cond (eqb (r .kind) 1) 12 20 → leb (k * x) (10 * r .near) ≡ seesNear r x

@@ -65,8 +65,8 @@ module _ (v v′ : View) (k k′ : Settings) (i : ℕ) (n : v .count ≡ v′ .c
   delay-same d =
       λ t.
       withinDelays (r t) d &&
-      each-same (λ j. gradedAbove (v .row j) (k j) d) (λ j. gradedAbove (v′ .row j) (k′ j) d)
-      (λ j b g. λ u. gradedAbove (fields j b g u) (settings j b g u) d) t
+      each-same (λ j. gradedAbove (v .row i) (v .row j) (k j) d) (λ j. gradedAbove (v′ .row i) (v′ .row j) (k′ j) d)
+      (λ j b g. λ u. gradedAbove (r u) (fields j b g u) (settings j b g u) d) t
 
   pub settled-same : settled v k i ≡ settled v′ k′ i
   unfolding settled

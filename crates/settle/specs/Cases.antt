@@ -1,5 +1,5 @@
--- [01 §3, §4] Worked cases of one row's conditions and of its settling, each worked out by hand from the section, on each side of
--- every bound. Rows are named by their numbers, from 1. Definitions only.
+-- [01 §3, §4], [02 §5] Worked cases of one row's conditions and of its settling, each worked out by hand from the section, on each
+-- side of every bound. Rows are named by their numbers, from 1. Definitions only.
 use mathlib.Core.Bool.{Bool, true, false, not, _&&_}
 use mathlib.Core.List.{List, [], _∷_}
 use Prim.Native.Nat.{ℕ, zero, suc, _+_, _-_, _*_}
@@ -8,14 +8,14 @@ use lib.ListN.{set}
 use Rattle.answers.specs.Answer.{reasonNumber}
 use Rattle.layout.specs.Card.{columnsOf}
 use Rattle.layout.specs.Counts.{fieldCount}
-use Rattle.layout.specs.Fields.{atKind, atFar, atNear, atLow, atHigh, atFloor, atCeiling, atBacked}
+use Rattle.layout.specs.Fields.{atKind, atFar, atNear, atLow, atHigh, atDevice, atFloor, atCeiling, atBacked}
 use Rattle.layout.specs.View.{viewOf, Settings}
 use Rattle.layout.specs.declared.CardRow.{CardRow}
 use Rattle.layout.specs.declared.Row.{Row}
 use Rattle.settle.specs.declared.Settled.{Settled}
 use Rattle.settle.specs.declared.Settled.the-variants.{Set, Unset}
 use Rattle.settle.specs.Conditions.{eachFed, returnsAfterSelfStart, clearOf, seesOwnZone, backsUp}
-use Rattle.settle.specs.Conditions.{withinDelays, gradedAbove, staysClear, seesNear}
+use Rattle.settle.specs.Conditions.{withinDelays, marginBetween, gradedAbove, staysClear, seesNear}
 use Rattle.settle.specs.Settle.{shown, settled}
 
 -- A line (6,000 V) fed by a transformer (10,000 V, not backed), which with a motor (400 V) is fed by a line (6,000 V). The
@@ -23,7 +23,7 @@ use Rattle.settle.specs.Settle.{shown, settled}
 unfoldable pub network : List ℕ
 network =
     1 ∷ 2 ∷ 1 ∷ 6000 ∷ 10000 ∷ 1100 ∷ 1000 ∷ 90000 ∷ 100000 ∷ 146520 ∷ 1200 ∷ 2100 ∷ 502100 ∷ 10000 ∷ 1 ∷ 0 ∷ 1000 ∷ 1 ∷
-    2 ∷ 4 ∷ 2 ∷ 10000 ∷ 30000 ∷ 1000 ∷ 800 ∷ 80000 ∷ 500000 ∷ 1002500 ∷ 1000 ∷ 1250 ∷ 1001250 ∷ 10000 ∷ 2 ∷ 0 ∷ 700 ∷ 0 ∷
+    2 ∷ 4 ∷ 2 ∷ 10000 ∷ 30000 ∷ 1000 ∷ 800 ∷ 80000 ∷ 500000 ∷ 1002500 ∷ 1000 ∷ 1250 ∷ 1001250 ∷ 10000 ∷ 2 ∷ 0 ∷ 900 ∷ 0 ∷
     3 ∷ 4 ∷ 3 ∷ 400 ∷ 150000 ∷ 5000 ∷ 1000 ∷ 2250000 ∷ 1000000 ∷ 3050000 ∷ 1500 ∷ 25000 ∷ 9925000 ∷ 100000 ∷ 3 ∷ 0 ∷ 500 ∷ 1 ∷
     4 ∷ 0 ∷ 1 ∷ 6000 ∷ 50000 ∷ 1600 ∷ 880 ∷ 300000 ∷ 1000000 ∷ 1561200 ∷ 1300 ∷ 61000 ∷ 1921000 ∷ 20000 ∷ 1 ∷ 1000 ∷
     1500 ∷ 0 ∷ []
@@ -52,15 +52,19 @@ holds b = b
 abbrev fails : Bool → Bool
 fails b = not b
 
--- P2 of row n above row m, and above every row that it feeds; D2 above row m; the others are named as they are
+-- P2 of row n above row m, and above every row that it feeds; D2 of row n above row m, and its step between two devices; the others
+-- are named as they are
 abbrev clearAbove : ℕ → ℕ → ℕ → Bool
 clearAbove n m I = clearOf (viewOf network) below (n - 1) (m - 1) I
 
 abbrev clearAboveAll : ℕ → ℕ → Bool
 clearAboveAll n I = eachFed (viewOf network) (n - 1) (λ j. clearOf (viewOf network) below (n - 1) j I)
 
-abbrev laterThan : ℕ → ℕ → Bool
-laterThan m t = gradedAbove (row m) (below (m - 1)) t
+abbrev laterThan : ℕ → ℕ → ℕ → Bool
+laterThan n m t = gradedAbove (row n) (row m) (below (m - 1)) t
+
+abbrev stepIs : ℕ → ℕ → ℕ → Bool
+stepIs d e x = eqb (marginBetween d e) x
 
 unfoldable pub conditions : List Bool
 conditions =
@@ -87,10 +91,14 @@ conditions =
     ∷ holds (withinDelays (row 4) 1500) ∷ fails (withinDelays (row 4) 1501)
     ∷ holds (withinDelays (row 3) 100) ∷ fails (withinDelays (row 3) 99)
     ∷ holds (withinDelays (row 1) 0) ∷ holds (withinDelays (row 2) 0)
-    -- D2 above devices 1, 2 and 3: 400 + 300, 700 + 500, 100 + 200
-    ∷ holds (laterThan 1 700) ∷ fails (laterThan 1 699)
-    ∷ holds (laterThan 2 1200) ∷ fails (laterThan 2 1199)
-    ∷ holds (laterThan 3 300) ∷ fails (laterThan 3 299)
+    -- D2 of device 2 above 1: 400 + 500; of device 1 above 2 and above 3: 700 + 500, 100 + 300
+    ∷ holds (laterThan 2 1 900) ∷ fails (laterThan 2 1 899)
+    ∷ holds (laterThan 4 2 1200) ∷ fails (laterThan 4 2 1199)
+    ∷ holds (laterThan 4 3 400) ∷ fails (laterThan 4 3 399)
+    -- the larger of two devices' steps, the one above the other and below it
+    ∷ stepIs 1 1 300 ∷ stepIs 1 2 500 ∷ stepIs 1 3 300
+    ∷ stepIs 2 1 500 ∷ stepIs 2 2 500 ∷ stepIs 2 3 500
+    ∷ stepIs 3 1 300 ∷ stepIs 3 2 500 ∷ stepIs 3 3 200
     -- cutoff: 1,000 × 1,300,000 = 1,300 × 1,000,000
     ∷ holds (staysClear (row 4) 1300000) ∷ fails (staysClear (row 4) 1299999)
     -- 10 × 1,561,200 = 12 × 1,301,000 for a line; 10 × 1,002,500 = 20 × 501,250 for a transformer; 10 × 3,050,000 =
@@ -123,7 +131,7 @@ with l n k x = set l ((n - 1) * fieldCount + k) x
 unfoldable pub settlings : List Bool
 settlings =
     settles network 1 (12100 ∷ 0 ∷ 122100 ∷ [])
-    ∷ settles network 2 (41250 ∷ 700 ∷ 501250 ∷ [])
+    ∷ settles network 2 (41250 ∷ 900 ∷ 501250 ∷ [])
     ∷ settles network 3 (825000 ∷ 100 ∷ 1525000 ∷ [])
     ∷ settles network 4 (121000 ∷ 1200 ∷ 1301000 ∷ [])
     -- the least pickup offered is 61,001 + 3 × 20,000; a cutoff at 1,301,001 would not see its near fault
@@ -144,6 +152,10 @@ settlings =
     ∷ settles (with network 4 atFloor 1201) 4 (121000 ∷ 1201 ∷ 1301000 ∷ [])
     ∷ settles (with network 3 atCeiling 100) 3 (825000 ∷ 100 ∷ 1525000 ∷ [])
     ∷ settles (with network 3 atCeiling 99) 3 (7 ∷ [])
+    -- the row's own device at the ceiling and one off; device 3 waits for the fed row's 300
+    ∷ settles (with network 2 atCeiling 899) 2 (7 ∷ [])
+    ∷ settles (with (with network 2 atDevice 3) 2 atCeiling 700) 2 (41250 ∷ 700 ∷ 501250 ∷ [])
+    ∷ settles (with (with network 2 atDevice 3) 2 atCeiling 699) 2 (7 ∷ [])
     -- neither a pickup nor a delay: 6 before 7
     ∷ settles (with (with network 4 atFar 181499) 4 atCeiling 1199) 4 (6 ∷ [])
     -- the cutoff of a line one off, and the same row as a transformer

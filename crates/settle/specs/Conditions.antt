@@ -1,9 +1,10 @@
 -- [01 §3] The conditions, each against its line of the section. Source document 000 departs from P2: it names only the
--- fed row of greatest pickup; section 3 asks it of every fed row. Definitions only.
+-- fed row of greatest pickup; section 3 asks it of every fed row. D2 is read with [02 §5]. Definitions only.
 -- v is a view of the list, i and j are rows counted from 0, r and f are rows by their fields: r the row itself, f one that it
--- feeds. I is a pickup and t a delay of the row itself; k gives the settings of each row, and s those of the fed row f.
+-- feeds; d and e are their devices. I is a pickup and t a delay of the row itself; k gives the settings of each row, and s those
+-- of the fed row f.
 use mathlib.Core.Bool.{Bool, not, cond, _&&_, _||_}
-use Prim.Native.Nat.{ℕ, _+_, _*_}
+use Prim.Native.Nat.{ℕ, _+_, _*_, max}
 use lib.Dec.{leb, eqb}
 use Rattle.fold.specs.Fold.{sumTo, every}
 use Rattle.layout.specs.declared.CardRow.{CardRow}
@@ -50,13 +51,17 @@ backsUp r f I = not (eqb (f .backed) 1) || atLeast (10 * f .far * f .volts) (12 
 unfoldable pub withinDelays : Row → ℕ → Bool
 withinDelays r t = atLeast t (r .floor) && (atLeast (r .ceiling) t && (not (eqb (r .kind) 3) || atLeast t 100))
 
--- the grading margin that a fed row's device asks: 300, 500 or 200 for device 1, 2 or 3
+-- a row's step, the grading margin that its device asks: 300, 500 or 200 for device 1, 2 or 3
 unfoldable pub margin : ℕ → ℕ
 margin device = cond (eqb device 1) 300 (cond (eqb device 2) 500 200)
 
--- D2, for a fed row f with settings s: the delay is at least its delay plus the step for the FED row's device
-unfoldable pub gradedAbove : Row → CardRow → ℕ → Bool
-gradedAbove f s t = atLeast t (s .delay + margin (f .device))
+-- [02 §5] the step between a row and one that it feeds: the larger of the two rows' steps
+unfoldable pub marginBetween : ℕ → ℕ → ℕ
+marginBetween d e = max (margin d) (margin e)
+
+-- D2, for a fed row f with settings s: the delay is at least its delay plus the larger of the two rows' steps
+unfoldable pub gradedAbove : Row → Row → CardRow → ℕ → Bool
+gradedAbove r f s t = atLeast t (s .delay + marginBetween (r .device) (f .device))
 
 -- cutoff, the bound on its pickup C: 1,000 × C ≥ factor × clear
 unfoldable pub staysClear : Row → ℕ → Bool

@@ -9,7 +9,7 @@ use Rattle.layout.specs.declared.Row.{Row}
 use Rattle.layout.specs.View.{View, Settings}
 use Rattle.settle.specs.declared.Fed.{Fed}
 use Rattle.settle.specs.declared.Settled.{Settled}
-use Rattle.settle.specs.Conditions.{atLeast, fed, loadOf, returnsAfterSelfStart, seesOwnZone, withinDelays, margin}
+use Rattle.settle.specs.Conditions.{atLeast, fed, loadOf, returnsAfterSelfStart, seesOwnZone, withinDelays, marginBetween}
 use Rattle.settle.specs.Settle.{leastPickup, leastDelay, outcomeOf}
 
 -- 1.2 times the greatest product of a current and volts that a list in range holds: 100,000,000 × 500,000
@@ -17,23 +17,23 @@ abbrev pub reach : ℕ
 reach = 60000000000000
 
 -- what one fed row f with the settings s adds: by how much its pickup exceeds its own load, from `reach` on; how far its
--- fault current stays below `reach`, where it is backed; the earliest delay above it
+-- fault current stays below `reach`, where it is backed; the earliest delay of the row above it, whose device is d
 abbrev pub excess : Row → CardRow → ℕ
 excess f s = s .pickup * f .volts + (reach - f .work * f .volts)
 
 abbrev pub shortfall : Row → ℕ
 shortfall f = cond (eqb (f .backed) 1) (reach - f .far * f .volts) 0
 
-abbrev pub earliest : Row → CardRow → ℕ
-earliest f s = s .delay + margin (f .device)
+abbrev pub earliest : ℕ → Row → CardRow → ℕ
+earliest d f s = s .delay + marginBetween d (f .device)
 
-abbrev pub asked : Row → CardRow → Fed
-asked f s =
+abbrev pub asked : ℕ → Row → CardRow → Fed
+asked d f s =
     record {
       load = f .work * f .volts;
       excess = excess f s;
       shortfall = shortfall f;
-      earliest = earliest f s;
+      earliest = earliest d f s;
     }
 
 -- over the rows that row i feeds: the sum of their loads, and the greatest of each of the three
@@ -43,7 +43,7 @@ gathered v k i =
       load = sumTo (v .count) (λ j. cond (fed v i j) (loadOf v j) 0);
       excess = maxTo (v .count) (λ j. cond (fed v i j) (excess (v .row j) (k j)) 0);
       shortfall = maxTo (v .count) (λ j. cond (fed v i j) (shortfall (v .row j)) 0);
-      earliest = maxTo (v .count) (λ j. cond (fed v i j) (earliest (v .row j) (k j)) 0);
+      earliest = maxTo (v .count) (λ j. cond (fed v i j) (earliest (v .row i .device) (v .row j) (k j)) 0);
     }
 
 -- P2 and P4 of all fed rows at once

@@ -23,7 +23,7 @@ meetsPickup v k i I =
 
 -- delay t of row i meets D1 and D2
 unfoldable pub meetsDelay : View → Settings → ℕ → ℕ → Bool
-meetsDelay v k i t = withinDelays (v .row i) t && eachFed v i (λ j. gradedAbove (v .row j) (k j) t)
+meetsDelay v k i t = withinDelays (v .row i) t && eachFed v i (λ j. gradedAbove (v .row i) (v .row j) (k j) t)
 
 -- the least available pickup that passes
 abbrev pub leastPickup : Row → (ℕ → Bool) → Found

@@ -11,7 +11,7 @@ ghost use mathlib.Core.Bool.{_&&_};
 ghost use Prim.Native.Nat.{ℕ, _-_, _≤_};
 ghost use lib.Dec.{leb};
 ghost use Rattle.layout.specs.Range.{Bounded};
-ghost use Rattle.settle.specs.Conditions.{returnsAfterSelfStart, seesOwnZone, seesNear, margin};
+ghost use Rattle.settle.specs.Conditions.{returnsAfterSelfStart, seesOwnZone, seesNear, margin, marginBetween};
 ghost use Rattle.settle.specs.Fed.{clearOfAll, backsUpAll, pickupBy, delayBy, settledBy, shortfall, asked, FedBounded, CardBounded};
 ghost use Rattle.settle.specs.Settle.{leastPickup, leastDelay, cutoffOf, printed, shown};
 
@@ -154,7 +154,7 @@ pub fn card_row(o: Outcome) -> CardRow
     }
 }
 
-// The grading margin of a fed row's device.
+// The grading margin that a row's device asks.
 fn margin_of(device: u64) -> u64
     ensures { λ r. ⌜ r ≡ margin device ⌝ }
 {
@@ -162,6 +162,13 @@ fn margin_of(device: u64) -> u64
         return 300;
     }
     if device == 2 { 500 } else { 200 }
+}
+
+// The grading margin between two rows by their devices: the larger of the two [02 §5].
+fn margin_between(d: u64, e: u64) -> u64
+    ensures { λ r. ⌜ r ≡ marginBetween d e ⌝ }
+{
+    greater(margin_of(d), margin_of(e))
 }
 
 fn shortfall_of(r: Row) -> u64
@@ -175,15 +182,15 @@ fn shortfall_of(r: Row) -> u64
     }
 }
 
-// What a settled row asks of the row that feeds it.
-pub fn asks(r: Row, s: CardRow) -> Fed
+// What a settled row asks of the row that feeds it, whose device is d.
+pub fn asks(d: u64, r: Row, s: CardRow) -> Fed
     requires { ⌜ Bounded r × CardBounded s ⌝ }
-    ensures { λ f. ⌜ f ≡ asked r s ⌝ }
+    ensures { λ f. ⌜ f ≡ asked d r s ⌝ }
 {
     let load = r.work * r.volts;
     let excess = s.pickup * r.volts + (REACH - load);
     let shortfall = shortfall_of(r);
-    let earliest = s.delay + margin_of(r.device);
+    let earliest = s.delay + margin_between(d, r.device);
     Fed {
         load,
         excess,

@@ -6,8 +6,8 @@ use crate::run::{Found, Group, Kind, Score, Seen};
 use second::answer::*;
 use second::generate::*;
 use second::replace::{replace, Ledger};
-use second::row::{CARD_NUMBERS, FIELDS, MOST_CURRENT, MOST_DELAY};
-use second::whole::whole;
+use second::row::{Row, CARD_NUMBERS, FIELDS, MOST_CURRENT, MOST_DELAY};
+use second::whole::{whole, Settings};
 
 const NUMBERS: Group = Group {
     name: "numbers given back by replacements",
@@ -36,7 +36,17 @@ const ON_FOREIGN: Group = Group {
     label: |item| name_of(item.0).to_string(),
 };
 
-pub const GROUPS: [Group; 4] = [NUMBERS, IN_SERIES, ROWS, ON_FOREIGN];
+const EFFECTS: [&str; 3] = ["stays", "changes", "refused"];
+
+/// What another device alone does to a row's own delay, through the rows that it
+/// feeds, and to its feeding row's [02 §5], by their places in EFFECTS.
+const BY_DEVICE: Group = Group {
+    name: "delays in series where only a device is replaced",
+    wanted: || vec![(1, 0), (0, 1), (1, 1), (2, 0), (0, 2)],
+    label: |item| format!("own {}, above {}:", EFFECTS[item.0 as usize], EFFECTS[item.1 as usize]),
+};
+
+pub const GROUPS: [Group; 5] = [NUMBERS, IN_SERIES, ROWS, ON_FOREIGN, BY_DEVICE];
 
 pub const KINDS: [Kind; 4] = [
     Kind { name: "replacements on any list and card", cases: 40_000, case: one },
@@ -100,11 +110,13 @@ fn long_course(_: u64, seed: u64, seen: &mut Seen) -> Found {
 
 /// Every answer is the ledger's; after the series so is the list, and the card
 /// is what the whole calculation of that list leaves in the card of the start.
+/// Where a device alone was replaced, the series up to there is judged too.
 fn beside_ledger(seed: u64, length: usize, seen: &mut Seen) -> Found {
     let (mut list, start, mut card) = accepted(seed);
     seen.note(&ROWS, row_count(&list));
     let mut ledger = Ledger::new(&list);
     for (step, change) in series(&list.clone(), length, seed).iter().enumerate() {
+        let (before, by_device) = (card.clone(), is_device_alone(&list, change));
         let answer = boundary::replace(&mut list, &mut card, change.place, &change.row);
         let expected = ledger.feed(change.place, &change.row);
         if answer != expected {
@@ -112,13 +124,43 @@ fn beside_ledger(seed: u64, length: usize, seen: &mut Seen) -> Found {
         }
         note(answer, seen);
         seen.note(&IN_SERIES, (u64::from(answer != Answer::DONE), 0));
-    }
-    let mut afresh = start;
-    let whole_again = whole(ledger.list(), &mut afresh);
-    if whole_again != Answer::DONE || list != ledger.list() || card != afresh {
-        return Err(format!("list or card differ after series {seed}"));
+        if by_device {
+            let effect = |row| effect_on(row, answer, &before, &card);
+            seen.note(&BY_DEVICE, (effect(change.place), effect(change.row[1])));
+        }
+        let is_judged = by_device || step + 1 == length;
+        if is_judged && !is_as_afresh(&list, &card, &ledger, &start) {
+            return Err(format!("list or card differ after step {step} of series {seed}"));
+        }
     }
     Ok(())
+}
+
+fn is_as_afresh(list: &[u64], card: &[u64], ledger: &Ledger, start: &[u64]) -> bool {
+    let mut afresh = start.to_vec();
+    let answer = whole(ledger.list(), &mut afresh);
+    answer == Answer::DONE && list == ledger.list() && card == afresh
+}
+
+/// Whether the new row is the list's with another device.
+fn is_device_alone(list: &[u64], change: &Change) -> bool {
+    let at = (change.place as usize).wrapping_sub(1);
+    let (Some(old), Ok(new)) = (list.as_chunks().0.get(at), change.row.as_slice().try_into())
+    else {
+        return false;
+    };
+    let (old, new) = (Row::read(old), Row::read(new));
+    new != old && new == Row { device: new.device, ..old }
+}
+
+/// By its place in EFFECTS, for the delay of a row or of the source, which has none.
+fn effect_on(row: u64, answer: Answer, before: &[u64], after: &[u64]) -> u64 {
+    if answer == Answer::at(DELAY, row) {
+        return 2;
+    }
+    let at = (row as usize).wrapping_sub(1);
+    let delay = |card: &[u64]| Some(Settings::read(card.as_chunks().0.get(at)?).delay);
+    u64::from(delay(before) != delay(after))
 }
 
 /// After each replacement the answer, the list and the card are the second program's.

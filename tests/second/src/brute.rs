@@ -56,7 +56,7 @@ fn delay_holds(row: &Row, set: &Settings, fed: &[Fed]) -> bool {
     not_below_floor(row, set.delay).hold()
         && not_above_ceiling(row, set.delay).hold()
         && not_below_motor_delay(row, set.delay).is_none_or(|sides| sides.hold())
-        && steps_above_fed_rows(set.delay, fed).all(|sides| sides.hold())
+        && steps_above_fed_rows(row, set.delay, fed).all(|sides| sides.hold())
 }
 
 fn combinations(rows: &[Row]) -> Vec<Vec<Settings>> {

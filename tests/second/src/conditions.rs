@@ -88,20 +88,29 @@ pub fn not_above_ceiling(row: &Row, delay: u64) -> Sides {
     Sides { greater: times([row.ceiling]), lesser: times([delay]) }
 }
 
-/// The step D2 takes for the fed row's device [01 §3].
-pub fn step_above(fed: &Row) -> u64 {
-    match fed.device {
+/// The step of a row by its device [01 §3 D2].
+pub fn own_step(row: &Row) -> u64 {
+    match row.device {
         1 => 300,
         2 => 500,
         _ => 200,
     }
 }
 
-/// D2, once for every fed row [01 §3].
-pub fn steps_above_fed_rows(delay: u64, fed: &[Fed]) -> impl Iterator<Item = Sides> + '_ {
+/// The step between a row and one that it feeds, the larger of theirs [02 §5].
+pub fn step_between(row: &Row, fed: &Row) -> u64 {
+    own_step(row).max(own_step(fed))
+}
+
+/// D2, once for every fed row [01 §3, 02 §5].
+pub fn steps_above_fed_rows<'a>(
+    row: &'a Row,
+    delay: u64,
+    fed: &'a [Fed],
+) -> impl Iterator<Item = Sides> + 'a {
     fed.iter().map(move |below| Sides {
         greater: times([delay]),
-        lesser: times([below.settings.delay]) + times([step_above(&below.row)]),
+        lesser: times([below.settings.delay]) + times([step_between(row, &below.row)]),
     })
 }
 

@@ -5,7 +5,7 @@
 //! stays below 2^57, and by P1 a pickup is above its row's work.
 
 use crate::answer::{Answer, DELAY, PICKUP};
-use crate::conditions::step_above;
+use crate::conditions::step_between;
 use crate::row::*;
 
 /// What the fed rows finished so far ask of their feeder.
@@ -17,7 +17,7 @@ struct Below {
     excess: u64,
     /// Least far × volts over backed rows.
     reach: u64,
-    /// Greatest delay with its step.
+    /// Greatest delay with the step above it.
     delay: u64,
 }
 
@@ -42,7 +42,9 @@ pub fn whole(list: &[u64], card: &mut [u64]) -> Answer {
         let Some(delay) = least_delay(&row, &below[at + 1]) else {
             return Answer::at(DELAY, row.row);
         };
-        heed(&mut below[row.feeds_from as usize], &row, pickup, delay);
+        if let Some(feeder) = feeder_of(rows, &row) {
+            heed(&mut below[row.feeds_from as usize], &feeder, &row, pickup, delay);
+        }
         settings.push([pickup, delay, fitted_cutoff(&row)]);
     }
     let settled = settings.as_flattened();
@@ -67,19 +69,25 @@ fn feeders_hold(rows: &[[u64; FIELDS]]) -> bool {
     };
     let feeder_holds = |numbers: &[u64; FIELDS]| {
         let row = Row::read(numbers);
-        let feeder = rows.get((row.feeds_from as usize).wrapping_sub(1));
-        row.feeds_from > row.row && feeder.is_some_and(|feeder| Row::read(feeder).kind != MOTOR)
+        let feeder = feeder_of(rows, &row);
+        row.feeds_from > row.row && feeder.is_some_and(|feeder| feeder.kind != MOTOR)
     };
     Row::read(last).feeds_from == 0 && fed.iter().all(feeder_holds)
 }
 
-fn heed(below: &mut Below, row: &Row, pickup: u64, delay: u64) {
+/// The feeding row, where it is one of the list.
+fn feeder_of(rows: &[[u64; FIELDS]], row: &Row) -> Option<Row> {
+    let at = (row.feeds_from as usize).checked_sub(1)?;
+    rows.get(at).map(Row::read)
+}
+
+fn heed(below: &mut Below, feeder: &Row, row: &Row, pickup: u64, delay: u64) {
     below.load += row.work * row.volts;
     below.excess = below.excess.max((pickup - row.work) * row.volts);
     if row.backed == 1 {
         below.reach = below.reach.min(row.far * row.volts);
     }
-    below.delay = below.delay.max(delay + step_above(row));
+    below.delay = below.delay.max(delay + step_between(feeder, row));
 }
 
 /// P1 to P4; for the fed row of greatest excess P2 asks most.

@@ -90,7 +90,7 @@ fn least_delay(row: &Row, fed: &[Fed]) -> Option<u64> {
     let least = least_step(MOST_DELAY, |delay| {
         not_below_floor(row, delay).hold()
             && not_below_motor_delay(row, delay).is_none_or(|sides| sides.hold())
-            && steps_above_fed_rows(delay, fed).all(|sides| sides.hold())
+            && steps_above_fed_rows(row, delay, fed).all(|sides| sides.hold())
     });
     least.filter(|&delay| not_above_ceiling(row, delay).hold())
 }

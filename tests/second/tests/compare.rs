@@ -92,6 +92,8 @@ fn each_condition_is_met_at_equality() {
             assert_eq!(answers[1].0, Answer::DONE, "{condition:?}, seed {seed}");
             let differs = answers[0] != answers[1] || answers[2] != answers[1];
             assert!(differs, "{condition:?}, seed {seed}");
+            let is_step = matches!(condition, Condition::D2(..));
+            assert!(!is_step || answers[2].0.number == DELAY, "{condition:?}, seed {seed}");
             *found.entry(format!("{condition:?}")).or_insert(0) += 1;
         }
     }

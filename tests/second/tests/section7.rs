@@ -1,4 +1,4 @@
-//! The numbers on each side of section 7, and its traps.
+//! The numbers on each side of section 7, and its traps; the step of [02 §5].
 
 use second::answer::{Answer, DELAY, PICKUP};
 use second::conditions::{stays_clear_of_fed_rows, Fed};
@@ -24,8 +24,14 @@ const CEILING: usize = 17;
 
 /// The list of section 6 with one field changed.
 fn with(place: usize, field: usize, value: u64) -> Vec<u64> {
+    with_all([(place, field, value)])
+}
+
+fn with_all<const N: usize>(changes: [(usize, usize, u64); N]) -> Vec<u64> {
     let mut list = LIST.to_vec();
-    list[(place - 1) * FIELDS + field - 1] = value;
+    for (place, field, value) in changes {
+        list[(place - 1) * FIELDS + field - 1] = value;
+    }
     list
 }
 
@@ -61,12 +67,34 @@ fn ceiling_on_each_side() {
     assert_eq!(carded(&with(2, CEILING, 2_199)), refused(DELAY, 2));
 }
 
-/// The step is the fed row's [01 §3 D2].
+/// The card of section 6 with another delay in row 2.
+fn delayed(delay: u64) -> (Answer, Vec<u64>) {
+    let mut card = CARD.to_vec();
+    card[4] = delay;
+    (Answer::DONE, card)
+}
+
+/// The larger step above 1,900, by the devices of rows 1 and 2 [01 §3 D2]. The
+/// request names the first two: the list as it is, and device 2 in row 2 [02 §5].
 #[test]
-fn step_of_each_device() {
-    for (device, delay) in [(1, 2_200), (2, 2_400), (3, 2_100)] {
-        assert_eq!(carded(&with(1, DEVICE, device)).1[4], delay);
-        assert_eq!(carded(&with(2, DEVICE, device)).1[4], 2_200);
+fn step_of_each_pair_of_devices() {
+    for (fed, feeding, delay) in [
+        (1, 1, 2_200),
+        (1, 2, 2_400),
+        (1, 3, 2_200),
+        (2, 1, 2_400),
+        (2, 2, 2_400),
+        (2, 3, 2_400),
+        (3, 1, 2_200),
+        (3, 2, 2_400),
+        (3, 3, 2_100),
+    ] {
+        let under = |ceiling| {
+            carded(&with_all([(1, DEVICE, fed), (2, DEVICE, feeding), (2, CEILING, ceiling)]))
+        };
+        assert_eq!(under(3_000), delayed(delay));
+        assert_eq!(under(delay), delayed(delay));
+        assert_eq!(under(delay - 1), refused(DELAY, 2));
     }
 }
 
@@ -162,4 +190,37 @@ fn climb_goes_on_after_work_changed() {
     let new = two_fed_rows_list(90_900, 101_000);
     assert_eq!(replace(&mut list, &mut card, 2, &new[FIELDS..2 * FIELDS]), Answer::DONE);
     assert_eq!([card[0], card[3], card[6]], [100_000, 101_000, 209_990]);
+}
+
+/// Rows 1, 2 and 3 in a chain; row 1 is of device 1 and row 3 of device 3.
+fn chain(middle_device: u64, last_floor: u64) -> [u64; 3 * FIELDS] {
+    let row = |row, feeds_from, device, floor| Row {
+        row,
+        feeds_from,
+        device,
+        floor,
+        ..Row::read(LIST[..FIELDS].try_into().unwrap())
+    };
+    let rows = [row(1, 2, 1, 1_000), row(2, 3, middle_device, 0), row(3, 0, 3, last_floor)];
+    numbers_of(&rows).try_into().unwrap()
+}
+
+/// Row 2's device counts below it and above it: its own delay changes, row 3's,
+/// or both [02 §5].
+#[test]
+fn middle_device_replaced() {
+    for (last_floor, device, delays) in [
+        (0, 3, [1_000, 1_300, 1_500]),
+        (0, 1, [1_000, 1_300, 1_600]),
+        (0, 2, [1_000, 1_500, 2_000]),
+        (2_000, 3, [1_000, 1_300, 2_000]),
+        (2_000, 2, [1_000, 1_500, 2_000]),
+    ] {
+        let (mut list, mut card, mut afresh) = (chain(3, last_floor), [0; 9], [0; 9]);
+        assert_eq!(whole(&list, &mut card), Answer::DONE);
+        let new = chain(device, last_floor);
+        assert_eq!(replace(&mut list, &mut card, 2, &new[FIELDS..2 * FIELDS]), Answer::DONE);
+        assert_eq!([card[1], card[4], card[7]], delays);
+        assert_eq!((fast::whole(&new, &mut afresh), afresh), (Answer::DONE, card));
+    }
 }

@@ -4,7 +4,7 @@ use borrow.Author.Needs.{needs}
 use native.Mathlib.Nat.{lt-of-le-of-lt}
 use lib.Dec.{lit<}
 use Rattle.settle.proofs.PickupLaws.{current-volts}
-use Rattle.settle.proofs.OutcomeLaws.{margin-to}
+use Rattle.settle.proofs.MarginLaws.{between-to}
 use Rattle.settle.proofs.asks.Statement.{statement}
 use Rattle.settle.proofs.asks.Tie as tie
 
@@ -27,17 +27,17 @@ add-excess c =
 shortfall-of-requires : tie.Need-shortfall-of-requires
 shortfall-of-requires c κs = search needs
 
-margin-of-requires : tie.Need-margin-of-requires
-margin-of-requires c κs = search needs
+margin-between-requires : tie.Need-margin-between-requires
+margin-between-requires c κs = search needs
 
 add-earliest : tie.Need-add-earliest
 add-earliest c =
     let margin = c .before in
     let start = margin .before .before .before .before .before in
-    omega (arith, start .pre .1 .delay-to, margin .margin-of .ensures, margin-to (start .args .r .device))
+    omega (arith, start .pre .1 .delay-to, margin .margin-between .ensures, between-to (start .args .d) (start .args .r .device))
 
 returns : tie.Need-returns
-returns c = rw (c .before .before .shortfall-of .ensures, c .before .margin-of .ensures)
+returns c = rw (c .before .before .shortfall-of .ensures, c .before .margin-between .ensures)
 
 pub asks-spec : {M : Type 1} → statement M
 asks-spec =
@@ -48,6 +48,6 @@ asks-spec =
     sub-excess
     add-excess
     shortfall-of-requires
-    margin-of-requires
+    margin-between-requires
     add-earliest
     returns)

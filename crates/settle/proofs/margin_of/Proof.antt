@@ -1,5 +1,5 @@
 -- `settle::margin_of` meets its contract: each device has its own return.
-use Rattle.settle.proofs.OutcomeLaws.{margin-1, margin-2, margin-3}
+use Rattle.settle.proofs.MarginLaws.{margin-1, margin-2, margin-3}
 use Rattle.settle.proofs.margin_of.Statement.{statement}
 use Rattle.settle.proofs.margin_of.Tie as tie
 

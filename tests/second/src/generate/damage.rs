@@ -2,6 +2,7 @@
 
 use super::lists::{feeders, list, SHAPES};
 use super::Rng;
+use crate::conditions::own_step;
 use crate::row::*;
 
 /// A list and a card as lent.
@@ -38,8 +39,9 @@ pub fn field_bounds(list: &[u64], place: u64) -> Vec<Vec<u64>> {
     lists
 }
 
-/// Lists in range with every field at a bound, or where that would always be
-/// refused at the greatest that can be accepted; the products are at their largest.
+/// Lists in range of any kinds and devices with every other field at a bound, or
+/// where that would always be refused at the greatest that can be accepted; the
+/// products are at their largest.
 pub fn corners(seed: u64) -> Vec<u64> {
     let mut rng = Rng::new(seed);
     let count = rng.pick(&[1, 2, 3, 5, MOST_ROWS as u64]);
@@ -51,12 +53,13 @@ pub fn corners(seed: u64) -> Vec<u64> {
         let mut row = Row::read(&BOUNDS.map(|bound| rng.pick(&[bound.least, bound.greatest])));
         (row.row, row.feeds_from) = (place, feeds_from);
         row.kind = rng.between(LINE, if feeders.contains(&place) { TRANSFORMER } else { MOTOR });
+        row.device = rng.between(1, 3);
         row.high = row.high.max(row.low);
         if ample {
             row = Row { selfstart: 1_000, return_factor: 1_000, far: MOST_CURRENT, ..row };
             row = Row { low: 1, high: MOST_CURRENT, step: 1, ceiling: MOST_DELAY, ..row };
             row.work = rng.pick(&[1, 1, 60_606_060, 60_606_061]);
-            row.floor = rng.pick(&[0, 99_800]);
+            row.floor = rng.pick(&[0, MOST_DELAY - own_step(&row)]);
         }
         rows.push(row);
     }

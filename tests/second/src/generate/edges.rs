@@ -15,7 +15,8 @@ pub enum Condition {
     Floor,
     MotorDelay,
     Ceiling,
-    D2,
+    /// Above a fed row of the second device, in a row of the first [02 §5].
+    D2(u64, u64),
     CutoffClear,
     CutoffNearLine,
     CutoffNearOther,
@@ -23,8 +24,27 @@ pub enum Condition {
 
 use Condition::*;
 
-pub const CONDITIONS: [Condition; 11] =
-    [P1, P2, P3, P4, Floor, MotorDelay, Ceiling, D2, CutoffClear, CutoffNearLine, CutoffNearOther];
+pub const CONDITIONS: [Condition; 19] = [
+    P1,
+    P2,
+    P3,
+    P4,
+    Floor,
+    MotorDelay,
+    Ceiling,
+    D2(1, 1),
+    D2(1, 2),
+    D2(1, 3),
+    D2(2, 1),
+    D2(2, 2),
+    D2(2, 3),
+    D2(3, 1),
+    D2(3, 2),
+    D2(3, 3),
+    CutoffClear,
+    CutoffNearLine,
+    CutoffNearOther,
+];
 
 type Field = fn(&mut Row) -> &mut u64;
 
@@ -71,7 +91,7 @@ fn neighbours(edge: Edge) -> [Vec<u64>; 3] {
 /// Whether the condition stands at equality in the row.
 fn is_equal_at(rows: &[Row], settings: &[Settings], at: usize, condition: Condition) -> bool {
     let (row, set) = (&rows[at], &settings[at]);
-    let fed = fed_rows(rows, settings, row.row);
+    let mut fed = fed_rows(rows, settings, row.row);
     let equal = |sides: Sides| sides.are_equal();
     match condition {
         P1 => equal(returns_after_self_start(row, set.pickup)),
@@ -81,7 +101,10 @@ fn is_equal_at(rows: &[Row], settings: &[Settings], at: usize, condition: Condit
         Floor => equal(not_below_floor(row, set.delay)),
         MotorDelay => not_below_motor_delay(row, set.delay).is_some_and(equal),
         Ceiling => equal(not_above_ceiling(row, set.delay)),
-        D2 => steps_above_fed_rows(set.delay, &fed).any(equal),
+        D2(feeding, under) => {
+            fed.retain(|below| (row.device, below.row.device) == (feeding, under));
+            steps_above_fed_rows(row, set.delay, &fed).any(equal)
+        }
         CutoffClear => set.cutoff > 0 && equal(cutoff_stays_clear(row, set.cutoff)),
         CutoffNearLine | CutoffNearOther => {
             set.cutoff > 0 && equal(cutoff_sees_near(row, set.cutoff))
@@ -114,7 +137,7 @@ fn prepare(rows: &[Row], settings: &[Settings], at: usize, condition: Condition)
             row.ceiling = set.delay;
             (at, |row| &mut row.ceiling)
         }
-        D2 => prepare_step(&mut rows, at, set.delay, &fed)?,
+        D2(feeding, under) => prepare_step(&mut rows, at, set.delay, &fed, [feeding, under])?,
         CutoffClear => (at, prepare_clear(row, set.cutoff)?),
         CutoffNearLine | CutoffNearOther => (at, prepare_near(row, set.cutoff, condition)?),
     };
@@ -159,12 +182,24 @@ fn prepare_backup(rows: &mut [Row], at: usize, pickup: u64) -> Option<(usize, Fi
     Some((fed, |row| &mut row.far))
 }
 
-fn prepare_step(rows: &mut [Row], at: usize, delay: u64, fed: &[Fed]) -> Option<(usize, Field)> {
-    let decides = |below: &&Fed| below.settings.delay + step_above(&below.row) == delay;
+/// One above, the fed row keeps room for its delay, so that D2 is what refuses.
+fn prepare_step(
+    rows: &mut [Row],
+    at: usize,
+    delay: u64,
+    fed: &[Fed],
+    devices: [u64; 2],
+) -> Option<(usize, Field)> {
+    let row = rows[at];
+    let decides = |below: &&Fed| {
+        [row.device, below.row.device] == devices
+            && below.settings.delay + step_between(&row, &below.row) == delay
+    };
     let below = fed.iter().find(decides)?;
     let moved = below.row.row as usize - 1;
     rows[at].ceiling = delay;
     rows[moved].floor = below.settings.delay;
+    rows[moved].ceiling = rows[moved].ceiling.max(below.settings.delay + 1);
     Some((moved, |row| &mut row.floor))
 }
 

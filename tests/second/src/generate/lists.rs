@@ -112,7 +112,8 @@ fn draft(rng: &mut Rng, depth: u64, is_leaf: bool, fed: &[Fed]) -> Row {
         low: if step >= 10 { low.next_multiple_of(10) } else { low }.clamp(1, MOST_CURRENT),
         high: MOST_CURRENT,
         step,
-        device: if depth > 150 { 3 } else { rng.between(1, 3) },
+        // At 500 a row a path of 256 would pass the greatest delay.
+        device: if depth > 150 { rng.pick(&[1, 2, 3, 3, 3]) } else { rng.between(1, 3) },
         floor: if is_leaf { 100 * rng.between(0, 20) } else { rng.pick(&[0, 0, 0, 1, 700]) },
         ceiling: MOST_DELAY,
         backed: 0,

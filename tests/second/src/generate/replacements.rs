@@ -54,6 +54,7 @@ pub fn change(list: &[u64], seed: u64) -> Change {
         7 => row.ceiling = rng.below(row.ceiling.min(MOST_DELAY) + 1),
         8 => row.floor = row.ceiling.saturating_add(1).min(MOST_DELAY),
         9 => {}
+        10 | 11 => row.device = rng.between(1, 3),
         _ => return Change { place, row: nudged(&mut rng, old) },
     }
     Change { place, row: row.numbers().to_vec() }
