@@ -90,6 +90,7 @@ table =
     ∷ heldTo 100000 101000 209000 true
     ∷ heldTo 100000 101000 208999 false
     ∷ heldTo 100000 101000 122100 false
+    -- [02 §5]
     ∷ done (set twoRows device2 2) laterCard
     ∷ done (set (set twoRows device2 2) ceiling2 2400) laterCard
     ∷ refused (set (set twoRows device2 2) ceiling2 2399) 7 2

@@ -43,12 +43,18 @@ done l c = worked (calculates l lent) (calculated (0 ∷ 0 ∷ 0 ∷ []) c)
 abbrev refused : List ℕ → ℕ → ℕ → ℕ → Worked
 refused l number place field = worked (calculates l lent) (calculated (number ∷ place ∷ field ∷ []) lent)
 
--- a replacement on the plant and a card: done with a list and a card, or refused with three numbers
+-- a replacement on a list and a card: done with a list and a card, or refused with three numbers; on the plant
+abbrev replacedIn : List ℕ → List ℕ → ℕ → List ℕ → List ℕ → List ℕ → Worked
+replacedIn l c place new l′ c′ = worked (replaces l c place new) (replacing (0 ∷ 0 ∷ 0 ∷ []) l′ c′)
+
+abbrev keptIn : List ℕ → List ℕ → ℕ → List ℕ → ℕ → ℕ → ℕ → Worked
+keptIn l c place new number at field = worked (replaces l c place new) (replacing (number ∷ at ∷ field ∷ []) l c)
+
 abbrev replacedBy : List ℕ → ℕ → List ℕ → List ℕ → List ℕ → Worked
-replacedBy c place new l′ c′ = worked (replaces plant c place new) (replacing (0 ∷ 0 ∷ 0 ∷ []) l′ c′)
+replacedBy = replacedIn plant
 
 abbrev kept : List ℕ → ℕ → List ℕ → ℕ → ℕ → ℕ → Worked
-kept c place new number at field = worked (replaces plant c place new) (replacing (number ∷ at ∷ field ∷ []) plant c)
+kept = keptIn plant
 
 -- conditions at equality and one off, in a whole calculation
 unfoldable pub conditions : List Worked
@@ -207,10 +213,10 @@ chainCard t₂ t₃ = 110000 ∷ 100 ∷ 500000 ∷ 121000 ∷ t₂ ∷ 500000 �
 
 -- row n of a list and card replaced by that of another list, which is then the list; or refused with a number at a row
 abbrev becomes : List ℕ → List ℕ → ℕ → List ℕ → List ℕ → Worked
-becomes l c n l′ c′ = worked (replaces l c n (row n l′)) (replacing (0 ∷ 0 ∷ 0 ∷ []) l′ c′)
+becomes l c n l′ c′ = replacedIn l c n (row n l′) l′ c′
 
 abbrev stays : List ℕ → List ℕ → ℕ → List ℕ → ℕ → ℕ → Worked
-stays l c n l′ number at = worked (replaces l c n (row n l′)) (replacing (number ∷ at ∷ 0 ∷ []) l c)
+stays l c n l′ number at = keptIn l c n (row n l′) number at 0
 
 -- D2 takes the larger of the two rows' steps
 unfoldable pub gradings : List Worked
