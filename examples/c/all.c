@@ -103,10 +103,12 @@ static void replace(void)
     puts("the replacement of row 1");
     show("work 190,000 mA", put_row_1(list, card, WORK, 190000));
     show_card(card);
+    show("an electromechanical relay", put_row_1(list, card, DEVICE, 2));
+    show_card(card);
     memcpy(old_list, list, sizeof list);
     memcpy(old_card, card, sizeof card);
     show("far 431,000 mA", put_row_1(list, card, FAR, 431000));
-    show("floor 2,701 ms", put_row_1(list, card, FLOOR, 2701));
+    show("floor 2,501 ms", put_row_1(list, card, FLOOR, 2501));
     show("volts 99", put_row_1(list, card, VOLTS, 99));
     show("another feeder", put_row_1(list, card, FEEDS_FROM, 0));
     show("another number", put_row_1(list, card, ROW, 2));

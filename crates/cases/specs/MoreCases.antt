@@ -197,19 +197,19 @@ replacements =
     ∷ kept plantCard 3 (row 3 (with plant 3 17 499)) 7 3 0
     ∷ []
 
--- A chain of three lines with these devices, the first with a delay of 100. Each pickup is 1.1 times the work, and by P2 1.1 times
--- the pickup below.
+-- A chain of three lines with these devices, the first with a delay of 100, the others free from 290 and 490 on. Each pickup is
+-- 1.1 times the work, and by P2 1.1 times the pickup below.
 abbrev link : ℕ → ℕ → ℕ → ℕ → ℕ → List ℕ → List ℕ
 link n feeder work device floor rest =
-    n ∷ feeder ∷ 1 ∷ 10000 ∷ work ∷ 1000 ∷ 1000 ∷ 1000000 ∷ 500000 ∷ 600000 ∷ 1000 ∷ 10000 ∷ 10000000 ∷ 100 ∷ device ∷ floor ∷
+    n ∷ feeder ∷ 1 ∷ 10000 ∷ work ∷ 1000 ∷ 1000 ∷ 1000000 ∷ 220000 ∷ 264000 ∷ 1000 ∷ 11000 ∷ 1100000 ∷ 1100 ∷ device ∷ floor ∷
     2000 ∷ 0 ∷ rest
 
 unfoldable pub chain : ℕ → ℕ → ℕ → List ℕ
-chain d₁ d₂ d₃ = link 1 2 100000 d₁ 100 (link 2 3 110000 d₂ 0 (link 3 0 121000 d₃ 0 []))
+chain d₁ d₂ d₃ = link 1 2 100000 d₁ 100 (link 2 3 110000 d₂ 290 (link 3 0 121000 d₃ 490 []))
 
 -- its card, the delays of the second and the third row being these
 unfoldable pub chainCard : ℕ → ℕ → List ℕ
-chainCard t₂ t₃ = 110000 ∷ 100 ∷ 500000 ∷ 121000 ∷ t₂ ∷ 500000 ∷ 133100 ∷ t₃ ∷ 500000 ∷ 77 ∷ []
+chainCard t₂ t₃ = 110000 ∷ 100 ∷ 220000 ∷ 121000 ∷ t₂ ∷ 220000 ∷ 133100 ∷ t₃ ∷ 220000 ∷ 77 ∷ []
 
 -- row n of a list and card replaced by that of another list, which is then the list; or refused with a number at a row
 abbrev becomes : List ℕ → List ℕ → ℕ → List ℕ → List ℕ → Worked
@@ -225,12 +225,8 @@ gradings =
     ∷ done (chain 2 1 1) (chainCard 600 900)
     ∷ done (chain 1 2 1) (chainCard 600 1100)
     ∷ done (chain 1 1 2) (chainCard 400 900)
-    ∷ done (chain 1 3 1) (chainCard 400 700)
-    ∷ done (chain 3 1 3) (chainCard 400 700)
-    ∷ done (chain 3 3 1) (chainCard 300 600)
     ∷ done (chain 1 3 3) (chainCard 400 600)
     ∷ done (chain 3 3 3) (chainCard 300 500)
-    ∷ done (chain 2 3 2) (chainCard 600 1100)
     -- the second row replaced, by its device alone: downward its own delay, upward its feeder's; and back
     ∷ becomes (chain 1 1 1) (chainCard 400 700) 2 (chain 1 2 1) (chainCard 600 1100)
     ∷ becomes (chain 1 2 1) (chainCard 600 1100) 2 (chain 1 3 1) (chainCard 400 700)
