@@ -91,8 +91,8 @@ typedef struct {
    Order: COUNT (no row, over 256, or a partial row: a length that is no multiple of 18), ROOM (fewer than 3 card numbers a row),
    FIELD over all rows ascending (in a row its fields ascending, then low above high, which is field 12), TREE over all rows
    ascending, then row by row PICKUP before DELAY.
-   A delay is at least that of each fed row plus the larger of the two rows' steps: 300, 500 or 200 ms for device 1, 2 or 3. The
-   other conditions are those of the README's table. */
+   A delay is at least that of each fed row plus the larger of the two rows' time steps: 300, 500 or 200 ms for device 1, 2 or 3
+   (libraries from before this rule took the fed row's alone). The other conditions are those of the README's table. */
 SurfpocketAnswer surfpocket_whole(const uint64_t *list, size_t list_length, uint64_t *card, size_t card_length);
 
 /* The replacement of the row at a place (from 1) by a row of 18 numbers that keeps its number and its feeder: gives DONE, puts the

@@ -21,7 +21,15 @@ module _ (v : View) (k k′ : Settings) (i : ℕ) where
 
   pub delay-down :
       (t : ℕ) → ((j : ℕ) → j < v .count → Feeding v i j → k j .delay ≤ k′ j .delay) → DelayMet v k′ i t → DelayMet v k i t
-  delay-down t u m = record { D1 = m .D1; D2 = λ j h f. (omega (arith, u j h f, m .D2 j h f .0), omega (arith, u j h f, m .D2 j h f .1)) }
+  delay-down t u m =
+      record {
+        D1 = m .D1;
+        D2 =
+            λ j h f.
+            let below = u j h f in
+            let d = m .D2 j h f in
+            record { fed-step = omega (arith, d .fed-step); own-step = omega (arith, d .own-step) };
+      }
 
 pub least-meets : (v : View) (k : Settings) → ((j : ℕ) → j < v .count → LeastRow v k j) → Meets v k
 least-meets v k all =

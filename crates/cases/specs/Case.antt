@@ -29,7 +29,7 @@ comes (replaces l c place row) =
     replacing (givenBy (r .answer)) (r .list) (r .card)
 comes (clears l k i I) = clear (eachFed (viewOf l) i (λ j. clearOf (viewOf l) k i j I))
 
--- a case with what document 01 says of it
+-- a case with what the documents say of it
 pub record Worked : Type 0 where
   pub case : Case
   pub is : Comes

@@ -1,6 +1,6 @@
--- [01 §2, §3, §4], [02 §5] Worked cases beside the starred ones: kinds 2 and 3, devices 2 and 3, unequal volts, every refusal number, and
--- pairs of faults that show the order. The numbers were worked out from the documents by hand. Rows, fields and places are
--- counted from 1, as there. Definitions only.
+-- [01 §2, §3, §4], [02 §5] Worked cases beside the starred ones: kinds 2 and 3, devices 2 and 3, unequal volts, every refusal
+-- number, and pairs of faults that show the order. The numbers were worked out from the documents by hand. Rows, fields and
+-- places are counted from 1, as there. Definitions only.
 use mathlib.Core.List.{List, [], _∷_, _++_}
 use Prim.Native.Nat.{ℕ, _+_, _-_, _*_}
 use lib.ListN.{set, take, drop, replicate}
@@ -43,15 +43,13 @@ done l c = worked (calculates l lent) (calculated (0 ∷ 0 ∷ 0 ∷ []) c)
 abbrev refused : List ℕ → ℕ → ℕ → ℕ → Worked
 refused l number place field = worked (calculates l lent) (calculated (number ∷ place ∷ field ∷ []) lent)
 
--- a replacement on a list and a card: done with a list and a card, or refused with three numbers; on the plant
-abbrev replacedIn : List ℕ → List ℕ → ℕ → List ℕ → List ℕ → List ℕ → Worked
-replacedIn l c place new l′ c′ = worked (replaces l c place new) (replacing (0 ∷ 0 ∷ 0 ∷ []) l′ c′)
+-- row n of a list and card replaced by that of another list, which is then the list, with its card
+abbrev becomes : List ℕ → List ℕ → ℕ → List ℕ → List ℕ → Worked
+becomes l c n l′ c′ = worked (replaces l c n (row n l′)) (replacing (0 ∷ 0 ∷ 0 ∷ []) l′ c′)
 
+-- a replacement on a list and a card refused with three numbers; on the plant
 abbrev keptIn : List ℕ → List ℕ → ℕ → List ℕ → ℕ → ℕ → ℕ → Worked
 keptIn l c place new number at field = worked (replaces l c place new) (replacing (number ∷ at ∷ field ∷ []) l c)
-
-abbrev replacedBy : List ℕ → ℕ → List ℕ → List ℕ → List ℕ → Worked
-replacedBy = replacedIn plant
 
 abbrev kept : List ℕ → ℕ → List ℕ → ℕ → ℕ → ℕ → Worked
 kept = keptIn plant
@@ -69,7 +67,8 @@ conditions =
     ∷ refused (with (with plant 2 18 1) 2 8 764499) 6 3 0
     -- the line not backed needs no such far
     ∷ done (with (with plant 1 18 0) 1 8 458699) plantCard
-    -- D2: the devices of the fed rows, 0 + 500 above row 1; with device 1 there, 100 + 300 above row 2, by row 3's own device
+    -- D2: 0 + 500 above row 1, by its device; with device 1 there, 100 + 300 above row 2, by row 3's own; with device 2 in row 2,
+    -- 100 + 500
     ∷ refused (with plant 3 17 499) 7 3 0
     ∷ done (with (with plant 1 15 1) 3 17 400) (cardOf 152900 400 302900)
     ∷ refused (with (with plant 1 15 1) 3 17 399) 7 3 0
@@ -155,14 +154,14 @@ ranges =
 unfoldable pub replacements : List Worked
 replacements =
     -- the line with another far: its own card row stays, and the transformer is settled anew
-    replacedBy plantCard 1 (row 1 (with plant 1 8 500000)) (with plant 1 8 500000) plantCard
+    becomes plant plantCard 1 (with plant 1 8 500000) plantCard
     ∷ kept plantCard 1 (row 1 (with plant 1 8 458699)) 6 3 0
     -- the transformer by itself
-    ∷ replacedBy plantCard 3 (row 3 (with plant 3 16 500)) (with plant 3 16 500) plantCard
-    ∷ replacedBy plantCard 3 (row 3 (with plant 3 10 605799)) (with plant 3 10 605799) (cardOf 152900 500 0)
+    ∷ becomes plant plantCard 3 (with plant 3 16 500) plantCard
+    ∷ becomes plant plantCard 3 (with plant 3 10 605799) (cardOf 152900 500 0)
     -- a card that does not belong to the list: the motor's row is read as it is found, those of the path are not read. P2:
     -- 11 × (300,000 × 6,000 + 100,000 × 10,000) / (10 × 25,000) = 123,200, so 132,900
-    ∷ replacedBy (9 ∷ 9 ∷ 9 ∷ 300000 ∷ 50 ∷ 0 ∷ 9 ∷ 9 ∷ 9 ∷ 77 ∷ []) 1 (row 1 plant) plant
+    ∷ becomes plant (9 ∷ 9 ∷ 9 ∷ 300000 ∷ 50 ∷ 0 ∷ 9 ∷ 9 ∷ 9 ∷ 77 ∷ []) 1 plant
     (165000 ∷ 0 ∷ 605000 ∷ 300000 ∷ 50 ∷ 0 ∷ 132900 ∷ 500 ∷ 302900 ∷ 77 ∷ [])
     -- 2 and 3
     ∷ worked (replaces (drop 1 plant) plantCard 1 (row 1 plant)) (replacing (2 ∷ 0 ∷ 0 ∷ []) (drop 1 plant) plantCard)
@@ -197,8 +196,8 @@ replacements =
     ∷ kept plantCard 3 (row 3 (with plant 3 17 499)) 7 3 0
     ∷ []
 
--- A chain of three lines with these devices, the first with a delay of 100, the others free from 290 and 490 on. Each pickup is
--- 1.1 times the work, and by P2 1.1 times the pickup below.
+-- A chain of three lines with these devices, the first with a delay of 100; the floors of the others, 290 and 490, lie below every
+-- delay that D2 asks of them. Each pickup is 1.1 times the work, and by P2 1.1 times the pickup below.
 abbrev link : ℕ → ℕ → ℕ → ℕ → ℕ → List ℕ → List ℕ
 link n feeder work device floor rest =
     n ∷ feeder ∷ 1 ∷ 10000 ∷ work ∷ 1000 ∷ 1000 ∷ 1000000 ∷ 220000 ∷ 264000 ∷ 1000 ∷ 11000 ∷ 1100000 ∷ 1100 ∷ device ∷ floor ∷
@@ -211,10 +210,7 @@ chain d₁ d₂ d₃ = link 1 2 100000 d₁ 100 (link 2 3 110000 d₂ 290 (link 
 unfoldable pub chainCard : ℕ → ℕ → List ℕ
 chainCard t₂ t₃ = 110000 ∷ 100 ∷ 220000 ∷ 121000 ∷ t₂ ∷ 220000 ∷ 133100 ∷ t₃ ∷ 220000 ∷ 77 ∷ []
 
--- row n of a list and card replaced by that of another list, which is then the list; or refused with a number at a row
-abbrev becomes : List ℕ → List ℕ → ℕ → List ℕ → List ℕ → Worked
-becomes l c n l′ c′ = replacedIn l c n (row n l′) l′ c′
-
+-- row n replaced by that of another list, and refused with a number at a row
 abbrev stays : List ℕ → List ℕ → ℕ → List ℕ → ℕ → ℕ → Worked
 stays l c n l′ number at = keptIn l c n (row n l′) number at 0
 
@@ -227,7 +223,7 @@ gradings =
     ∷ done (chain 1 1 2) (chainCard 400 900)
     ∷ done (chain 1 3 3) (chainCard 400 600)
     ∷ done (chain 3 3 3) (chainCard 300 500)
-    -- the second row replaced, by its device alone: downward its own delay, upward its feeder's; and back
+    -- the second row replaced, by its device alone: downward its own delay, upward its feeder's; then by device 3
     ∷ becomes (chain 1 1 1) (chainCard 400 700) 2 (chain 1 2 1) (chainCard 600 1100)
     ∷ becomes (chain 1 2 1) (chainCard 600 1100) 2 (chain 1 3 1) (chainCard 400 700)
     -- the first: only upward; the third: only downward

@@ -25,7 +25,7 @@ use Rattle.settle.specs.Conditions.{fed, loadOf}
 use Rattle.settle.specs.Fed.{reach, excess, shortfall, earliest, asked, settledBy, FedBounded, CardBounded}
 use Rattle.settle.specs.Settle.{shown, settled}
 use Rattle.settle.proofs.FedLaws.{settled-by}
-use Rattle.settle.proofs.MarginLaws.{between-to}
+use Rattle.settle.proofs.MarginLaws.{marginBetween-to}
 use Rattle.settle.proofs.OutcomeLaws.{set-bounded}
 use Rattle.settle.proofs.PickupLaws.{current-volts, load-bounded}
 use Rattle.rowwise.specs.Ready.{HasFeeder, WorkReady}
@@ -55,7 +55,7 @@ module _ (l : List ℕ) (done matters : ℕ → Bool) (c s : List ℕ) (w : Work
       omega (arith, current-volts (w .settings-to j b g .pickup-to) (q .volts-to))
 
   earliest-to : (d j : ℕ) → j < rows l → done j ≡ true → earliest d (rowAt l j) (cardRowAt c j) ≤ 100500
-  earliest-to d j b g = omega (arith, w .settings-to j b g .delay-to, between-to d (rowAt l j .device))
+  earliest-to d j b g = omega (arith, w .settings-to j b g .delay-to, marginBetween-to d (rowAt l j .device))
 
   gathered-bounded : (k : ℕ) → FedBounded (gatheredBy done (viewOf l) (cardRowAt c) k)
   gathered-bounded k =

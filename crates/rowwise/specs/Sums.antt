@@ -47,10 +47,11 @@ joined a b =
       earliest = max (a .earliest) (b .earliest);
     }
 
--- what row r of the list l with the settings k asks of the row that feeds it, and that added for it
+-- what row r of the list l, with the settings k, asks of the row that feeds it
 abbrev pub askedAbove : List ℕ → Row → CardRow → Fed
 askedAbove l r k = asked (rowAt l (r .feeder - 1) .device) r k
 
+-- the sums with that joined in at the feeder's place
 unfoldable pub pushed : List ℕ → Row → CardRow → List ℕ → List ℕ
 pushed l r k s = cond (eqb (r .feeder) 0) s (putFed s (r .feeder - 1) (joined (fedAt s (r .feeder - 1)) (askedAbove l r k)))
 

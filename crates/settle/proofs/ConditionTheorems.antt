@@ -12,7 +12,7 @@ use Rattle.layout.specs.declared.Row.{Row}
 use Rattle.layout.specs.View.{View, Settings}
 use Rattle.settle.specs.Conditions.{fed, othersLoad, returnsAfterSelfStart, clearOf, seesOwnZone, backsUp}
 use Rattle.settle.specs.Conditions.{withinDelays, margin, marginBetween, gradedAbove, staysClear, seesNear}
-use Rattle.settle.specs.Inequalities.{SeesNear}
+use Rattle.settle.specs.Inequalities.{GradedAbove, SeesNear}
 
 -- a test of two numbers passes exactly where the one is at most the other
 at-most : (a b : ℕ) → (leb a b ≡ true) ↔ (a ≤ b)
@@ -55,14 +55,14 @@ D1-exactly r t = (
       (and-both (le-leb t (r .ceiling) (h .1)) (implied (eqb (r .kind) 3) (leb 100 t) (λ k. le-leb 100 t (h .2 (eqb-true (r .kind) 3 k))))),
 )
 
--- [02 §5] the larger of the two rows' steps: the fed row's is kept, and the row's own
-pub D2-exactly :
-    (r f : Row) (s : CardRow) (t : ℕ) → (gradedAbove r f s t ≡ true) ↔
-    ((s .delay + margin (f .device) ≤ t) × (s .delay + margin (r .device) ≤ t))
+-- [02 §5] to keep the larger of the two rows' steps is to keep both
+pub D2-exactly : (r f : Row) (s : CardRow) (t : ℕ) → (gradedAbove r f s t ≡ true) ↔ GradedAbove r f s t
 unfolding gradedAbove marginBetween
 D2-exactly r f s t = (
-  λ e. let later = leb-true (s .delay + marginBetween (r .device) (f .device)) t e in (omega arith, omega arith),
-  λ h. le-leb (s .delay + marginBetween (r .device) (f .device)) t (omega (arith, h .0, h .1)),
+  λ e.
+      let later = leb-true (s .delay + marginBetween (r .device) (f .device)) t e in
+      record { fed-step = omega arith; own-step = omega arith },
+  λ h. le-leb (s .delay + marginBetween (r .device) (f .device)) t (omega (arith, h .fed-step, h .own-step)),
 )
 
 -- the step is 300, 500 or 200 for device 1, 2 or 3

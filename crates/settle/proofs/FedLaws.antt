@@ -143,7 +143,10 @@ module _ (v : View) (a : AllBounded v) (k : Settings) (i : ℕ) (h : i < v .coun
   pub backs-all : (I : ℕ) → I ≤ 100000000 → backsUpAll (v .row i) (gathered v k i) I ≡ eachFed v i (λ j. backsUp (v .row i) (v .row j) I)
   backs-all I b = same-test _ _ (backs-each I) (λ t. unfold backsUpAll in le-leb _ _ (backs-greatest I b t))
 
-  -- D2 for every fed row, and for the greatest earliest delay
+  -- the earliest delay of row i for row j; D2 for every fed row, and for the greatest of these
+  abbrev earliest-for : ℕ → ℕ
+  earliest-for j = earliest (v .row i .device) (v .row j) (k j)
+
   pub graded-all : (t : ℕ) → leb (gathered v k i .earliest) t ≡ eachFed v i (λ j. gradedAbove (v .row i) (v .row j) (k j) t)
   unfolding gradedAbove
   graded-all t =
@@ -151,22 +154,22 @@ module _ (v : View) (a : AllBounded v) (k : Settings) (i : ℕ) (h : i < v .coun
       (λ e.
       each-fed-of v i (λ j. gradedAbove (v .row i) (v .row j) (k j) t)
       (λ j b g.
-      le-leb (earliest (v .row i .device) (v .row j) (k j)) t
+      le-leb (earliest-for j) t
       (omega (
         arith,
         leb-true (gathered v k i .earliest) t e,
-        le-maxTo (λ j. cond (fed v i j) (earliest (v .row i .device) (v .row j) (k j)) 0) (v .count) j b,
-        counted-fed (earliest (v .row i .device) (v .row j) (k j)) g,
+        le-maxTo (λ j. cond (fed v i j) (earliest-for j) 0) (v .count) j b,
+        counted-fed (earliest-for j) g,
       ))))
       (λ e.
       le-leb (gathered v k i .earliest) t
       (⊎-elim
       (λ z. omega arith)
       (λ m.
-      let c : earliest (v .row i .device) (v .row (m .at)) (k (m .at)) ≤ t = leb-true _ _
+      let c : earliest-for (m .at) ≤ t = leb-true _ _
       (each-fed-at v i (λ j. gradedAbove (v .row i) (v .row j) (k j) t) e (m .at) (m .below) (m .counts)) in
       omega (arith, m .is))
-      (greatest (fed v i) (λ j. earliest (v .row i .device) (v .row j) (k j)) (v .count))))
+      (greatest (fed v i) earliest-for (v .count))))
 
   -- a row settled by the four numbers is settled by section 3
   pub settled-by : settledBy (v .row i) (gathered v k i) ≡ settled v k i

@@ -1,4 +1,4 @@
--- The step of a device, one law for each; and how large it is, of one device and between two.
+-- The step of a device, one law for each; and that it is at most 500, of one device and between two.
 use mathlib.Core.Path.{_≡_}
 use mathlib.Core.Bool.{Bool, true, false, cond}
 use Prim.Native.Nat.{ℕ, _≤_}
@@ -29,6 +29,6 @@ margin-to d = by-cases (eqb d 1) (eqb d 2)
     by-cases false true = omega arith
     by-cases false false = omega arith
 
-pub between-to : (d e : ℕ) → marginBetween d e ≤ 500
+pub marginBetween-to : (d e : ℕ) → marginBetween d e ≤ 500
 unfolding marginBetween
-between-to d e = omega (arith, margin-to d, margin-to e)
+marginBetween-to d e = omega (arith, margin-to d, margin-to e)

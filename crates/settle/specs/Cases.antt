@@ -18,8 +18,8 @@ use Rattle.settle.specs.Conditions.{eachFed, returnsAfterSelfStart, clea
 use Rattle.settle.specs.Conditions.{withinDelays, marginBetween, gradedAbove, staysClear, seesNear}
 use Rattle.settle.specs.Settle.{shown, settled}
 
--- A line (6,000 V) fed by a transformer (10,000 V, not backed), which with a motor (400 V) is fed by a line (6,000 V). The
--- devices below it are 1, 2 and 3.
+-- A line (6,000 V) fed by a transformer (10,000 V, not backed), which with a motor (400 V) is fed by a line (6,000 V). Their
+-- devices are 1, 2, 3 and 1.
 unfoldable pub network : List ℕ
 network =
     1 ∷ 2 ∷ 1 ∷ 6000 ∷ 10000 ∷ 1100 ∷ 1000 ∷ 90000 ∷ 100000 ∷ 146520 ∷ 1200 ∷ 2100 ∷ 502100 ∷ 10000 ∷ 1 ∷ 0 ∷ 1000 ∷ 1 ∷
@@ -52,7 +52,7 @@ holds b = b
 abbrev fails : Bool → Bool
 fails b = not b
 
--- P2 of row n above row m, and above every row that it feeds; D2 of row n above row m, and its step between two devices; the others
+-- P2 of row n above row m, and above every row that it feeds; D2 of row n above row m, and the step between two devices; the others
 -- are named as they are
 abbrev clearAbove : ℕ → ℕ → ℕ → Bool
 clearAbove n m I = clearOf (viewOf network) below (n - 1) (m - 1) I
@@ -95,7 +95,7 @@ conditions =
     ∷ holds (laterThan 2 1 900) ∷ fails (laterThan 2 1 899)
     ∷ holds (laterThan 4 2 1200) ∷ fails (laterThan 4 2 1199)
     ∷ holds (laterThan 4 3 400) ∷ fails (laterThan 4 3 399)
-    -- the larger of two devices' steps, the one above the other and below it
+    -- the step of a row of the first device above one of the second
     ∷ stepIs 1 1 300 ∷ stepIs 1 2 500 ∷ stepIs 1 3 300
     ∷ stepIs 2 1 500 ∷ stepIs 2 2 500 ∷ stepIs 2 3 500
     ∷ stepIs 3 1 300 ∷ stepIs 3 2 500 ∷ stepIs 3 3 200

@@ -51,7 +51,7 @@ backsUp r f I = not (eqb (f .backed) 1) || atLeast (10 * f .far * f .volts) (12 
 unfoldable pub withinDelays : Row → ℕ → Bool
 withinDelays r t = atLeast t (r .floor) && (atLeast (r .ceiling) t && (not (eqb (r .kind) 3) || atLeast t 100))
 
--- a row's step, the grading margin that its device asks: 300, 500 or 200 for device 1, 2 or 3
+-- a row's step in D2, the grading margin that its device asks: 300, 500 or 200 for device 1, 2 or 3
 unfoldable pub margin : ℕ → ℕ
 margin device = cond (eqb device 1) 300 (cond (eqb device 2) 500 200)
 

@@ -4,6 +4,7 @@
 use mathlib.Core.Path.{_≡_}
 use Prim.Native.Nat.{ℕ, _+_, _*_, _≤_, _<_}
 use Rattle.grid.specs.Grid.{Available}
+use Rattle.layout.specs.declared.CardRow.{CardRow}
 use Rattle.layout.specs.declared.Row.{Row}
 use Rattle.layout.specs.View.{View, Settings}
 use Rattle.settle.specs.declared.Cutoff.{Cutoff}
@@ -28,12 +29,15 @@ pub record PickupMet (v : View) (k : Settings) (i I : ℕ) : Type 0 where
   pub P3 : 15 * I ≤ 10 * v .row i .far
   pub P4 : (j : ℕ) → j < v .count → Feeding v i j → v .row j .backed ≡ 1 → 12 * I * v .row i .volts ≤ 10 * v .row j .far * v .row j .volts
 
--- delay t of row i meets D1 and D2; [02 §5] "the larger of the two rows' steps": the fed row's and the row's own are both kept
+-- [02 §5] "the larger of the two rows' steps": delay t of row r keeps the step of the row f that it feeds, at the settings s, and its own
+pub record GradedAbove (r f : Row) (s : CardRow) (t : ℕ) : Type 0 where
+  pub fed-step : s .delay + margin (f .device) ≤ t
+  pub own-step : s .delay + margin (r .device) ≤ t
+
+-- delay t of row i meets D1 and D2
 pub record DelayMet (v : View) (k : Settings) (i t : ℕ) : Type 0 where
   pub D1 : (v .row i .floor ≤ t) × (t ≤ v .row i .ceiling) × (v .row i .kind ≡ 3 → 100 ≤ t)
-  pub D2 :
-      (j : ℕ) → j < v .count → Feeding v i j →
-      (k j .delay + margin (v .row j .device) ≤ t) × (k j .delay + margin (v .row i .device) ≤ t)
+  pub D2 : (j : ℕ) → j < v .count → Feeding v i j → GradedAbove (v .row i) (v .row j) (k j) t
 
 -- "its pickup is the least available C with 1,000 × C ≥ factor × clear"
 pub record CutoffPickup (r : Row) (C : ℕ) : Type 0 where

@@ -183,14 +183,14 @@ fn shortfall_of(r: Row) -> u64
 }
 
 // What a settled row asks of the row that feeds it, whose device is d.
-pub fn asks(d: u64, r: Row, s: CardRow) -> Fed
-    requires { ⌜ Bounded r × CardBounded s ⌝ }
-    ensures { λ f. ⌜ f ≡ asked d r s ⌝ }
+pub fn asks(d: u64, f: Row, s: CardRow) -> Fed
+    requires { ⌜ Bounded f × CardBounded s ⌝ }
+    ensures { λ a. ⌜ a ≡ asked d f s ⌝ }
 {
-    let load = r.work * r.volts;
-    let excess = s.pickup * r.volts + (REACH - load);
-    let shortfall = shortfall_of(r);
-    let earliest = s.delay + margin_between(d, r.device);
+    let load = f.work * f.volts;
+    let excess = s.pickup * f.volts + (REACH - load);
+    let shortfall = shortfall_of(f);
+    let earliest = s.delay + margin_between(d, f.device);
     Fed {
         load,
         excess,

@@ -38,8 +38,8 @@ const ON_FOREIGN: Group = Group {
 
 const EFFECTS: [&str; 3] = ["stays", "changes", "refused"];
 
-/// What another device alone does to a row's own delay, through the rows that it
-/// feeds, and to its feeding row's [02 §5], by their places in EFFECTS.
+/// What another device alone does to the delay of a row with a feeding row, through
+/// the rows that it feeds, and to its feeding row's [02 §5], by their places in EFFECTS.
 const BY_DEVICE: Group = Group {
     name: "delays in series where only a device is replaced",
     wanted: || vec![(1, 0), (0, 1), (1, 1), (2, 0), (0, 2)],
@@ -124,7 +124,7 @@ fn beside_ledger(seed: u64, length: usize, seen: &mut Seen) -> Found {
         }
         note(answer, seen);
         seen.note(&IN_SERIES, (u64::from(answer != Answer::DONE), 0));
-        if by_device {
+        if by_device && change.row[1] != 0 {
             let effect = |row| effect_on(row, answer, &before, &card);
             seen.note(&BY_DEVICE, (effect(change.place), effect(change.row[1])));
         }
@@ -153,13 +153,12 @@ fn is_device_alone(list: &[u64], change: &Change) -> bool {
     new != old && new == Row { device: new.device, ..old }
 }
 
-/// By its place in EFFECTS, for the delay of a row or of the source, which has none.
+/// By its place in EFFECTS, for the delay of a row.
 fn effect_on(row: u64, answer: Answer, before: &[u64], after: &[u64]) -> u64 {
     if answer == Answer::at(DELAY, row) {
         return 2;
     }
-    let at = (row as usize).wrapping_sub(1);
-    let delay = |card: &[u64]| Some(Settings::read(card.as_chunks().0.get(at)?).delay);
+    let delay = |card: &[u64]| Settings::read(&card.as_chunks().0[row as usize - 1]).delay;
     u64::from(delay(before) != delay(after))
 }
 

@@ -4,7 +4,7 @@ use borrow.Author.Needs.{needs}
 use native.Mathlib.Nat.{lt-of-le-of-lt}
 use lib.Dec.{lit<}
 use Rattle.settle.proofs.PickupLaws.{current-volts}
-use Rattle.settle.proofs.MarginLaws.{between-to}
+use Rattle.settle.proofs.MarginLaws.{marginBetween-to}
 use Rattle.settle.proofs.asks.Statement.{statement}
 use Rattle.settle.proofs.asks.Tie as tie
 
@@ -34,7 +34,7 @@ add-earliest : tie.Need-add-earliest
 add-earliest c =
     let margin = c .before in
     let start = margin .before .before .before .before .before in
-    omega (arith, start .pre .1 .delay-to, margin .margin-between .ensures, between-to (start .args .d) (start .args .r .device))
+    omega (arith, start .pre .1 .delay-to, margin .margin-between .ensures, marginBetween-to (start .args .d) (start .args .f .device))
 
 returns : tie.Need-returns
 returns c = rw (c .before .before .shortfall-of .ensures, c .before .margin-between .ensures)

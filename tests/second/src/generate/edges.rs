@@ -15,7 +15,7 @@ pub enum Condition {
     Floor,
     MotorDelay,
     Ceiling,
-    /// Above a fed row of the second device, in a row of the first [02 §5].
+    /// `D2(d, e)`: of a row of device d above a fed row of device e [02 §5].
     D2(u64, u64),
     CutoffClear,
     CutoffNearLine,
