@@ -1,16 +1,20 @@
--- `settle::margin_of` meets its contract: each device has its own return.
-use Rattle.settle.proofs.MarginLaws.{margin-1, margin-2, margin-3}
+-- `settle::margin_of` meets its contract: each device has its own return, by the same tests as in the definition.
+use borrow.Author.Tests.{eq-eqb, ne-eqb}
+use Rattle.settle.specs.Conditions.{margin}
 use Rattle.settle.proofs.margin_of.Statement.{statement}
 use Rattle.settle.proofs.margin_of.Tie as tie
 
 returns : tie.Need-returns
-returns c = margin-1 _ (c .if1 .taken)
+unfolding margin
+returns c = rw (eq-eqb _ 1 (c .if1 .taken))
 
 returns-2 : tie.Need-returns-2
-returns-2 c = margin-2 _ (c .before .if1 .left) (c .if2 .taken)
+unfolding margin
+returns-2 c = rw (ne-eqb _ 1 (c .before .if1 .left), eq-eqb _ 2 (c .if2 .taken))
 
 returns-3 : tie.Need-returns-3
-returns-3 c = margin-3 _ (c .before .if1 .left) (c .if2 .left)
+unfolding margin
+returns-3 c = rw (ne-eqb _ 1 (c .before .if1 .left), ne-eqb _ 2 (c .if2 .left))
 
 pub margin-of-spec : {M : Type 1} → statement M
 margin-of-spec = tie.close (tie.spec returns returns-2 returns-3)
