@@ -1,10 +1,10 @@
--- [01 §4] The numbers given back. Definitions only.
+-- [01 §4], [02 §2] The numbers given back. 6 is retired. Definitions only.
 use mathlib.Core.List.{List, [], _∷_}
 use Prim.Native.Nat.{ℕ}
 use lib.ListN.{getD}
 use Rattle.answers.specs.declared.Answer.{Answer}
 use Rattle.answers.specs.declared.Answer.the-variants.{Done, Text, Count, Room, Field, Tree, Unsettled, Study, Card, Edit}
-use Rattle.answers.specs.declared.Reason.{Reason}
+use Rattle.answers.specs.declared.Cause.the-variants.{Range, OwnZone, Backup}
 use Rattle.answers.specs.declared.Reason.the-variants.{Pickup, Delay}
 
 -- an answer is given in so many numbers
@@ -15,10 +15,6 @@ numberCount = 3
 abbrev numbered : ℕ → ℕ → ℕ → List ℕ
 numbered n p x = n ∷ p ∷ x ∷ []
 
-abbrev pub reasonNumber : Reason → ℕ
-reasonNumber Pickup = 6
-reasonNumber Delay = 7
-
 abbrev pub givenBy : Answer → List ℕ
 givenBy Done = numbered 0 0 0
 givenBy (Text line) = numbered 1 line 0
@@ -26,7 +22,10 @@ givenBy Count = numbered 2 0 0
 givenBy Room = numbered 3 0 0
 givenBy (Field row field) = numbered 4 row field
 givenBy (Tree row) = numbered 5 row 0
-givenBy (Unsettled row why) = numbered (reasonNumber why) row 0
+givenBy (Unsettled row (Pickup Range)) = numbered 11 row 0
+givenBy (Unsettled row (Pickup OwnZone)) = numbered 12 row 0
+givenBy (Unsettled row (Pickup (Backup fed))) = numbered 13 row fed
+givenBy (Unsettled row Delay) = numbered 7 row 0
 givenBy (Study place) = numbered 8 place 0
 givenBy (Card row) = numbered 9 row 0
 givenBy Edit = numbered 10 0 0

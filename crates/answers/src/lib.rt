@@ -1,10 +1,19 @@
 // The answers of section 4, and their numbers.
 ghost use mathlib.Core.Path.{_≡_};
-ghost use Rattle.answers.specs.Answer.{reasonNumber, givenBy};
+ghost use Rattle.answers.specs.declared.Answer.the-variants.{Unsettled};
+ghost use Rattle.answers.specs.Answer.{givenBy};
+
+// Why no available pickup meets P1 to P4 [02 §2]: none meets P1 and P2; the least that does fails P3; or it fails P4 for the fed
+// row of this number.
+pub enum Cause {
+    Range,
+    OwnZone,
+    Backup(u64),
+}
 
 // Why a row can't be settled.
 pub enum Reason {
-    Pickup,
+    Pickup(Cause),
     Delay,
 }
 
@@ -31,12 +40,16 @@ pub enum Tested {
 // An answer is given in so many numbers: number, place, and what names the place more closely.
 pub const NUMBERS: usize = 3;
 
-fn reason_number(why: Reason) -> u64
-    ensures { λ r. ⌜ r ≡ reasonNumber why ⌝ }
+fn unsettled(row: u64, why: Reason) -> [u64; NUMBERS]
+    ensures { λ r. ⌜ r ≡ givenBy (Unsettled row why) ⌝ }
 {
     match why {
-        Reason::Pickup => 6,
-        Reason::Delay => 7,
+        Reason::Pickup(cause) => match cause {
+            Cause::Range => [11, row, 0],
+            Cause::OwnZone => [12, row, 0],
+            Cause::Backup(fed) => [13, row, fed],
+        },
+        Reason::Delay => [7, row, 0],
     }
 }
 
@@ -50,7 +63,7 @@ pub fn numbers(a: Answer) -> [u64; NUMBERS]
         Answer::Room => [3, 0, 0],
         Answer::Field(row, field) => [4, row, field],
         Answer::Tree(row) => [5, row, 0],
-        Answer::Unsettled(row, why) => [reason_number(why), row, 0],
+        Answer::Unsettled(row, why) => unsettled(row, why),
         Answer::Study(place) => [8, place, 0],
         Answer::Card(row) => [9, row, 0],
         Answer::Edit => [10, 0, 0],

@@ -22,11 +22,10 @@ use Rattle.layout.specs.View.{viewOf}
 use Rattle.layout.proofs.CardLaws.{putCardRow-length}
 use Rattle.settle.specs.declared.Settled.{Settled}
 use Rattle.settle.specs.declared.Settled.the-variants.{Set, Unset}
-use Rattle.settle.specs.Fed.{settledBy}
 use Rattle.settle.specs.Settle.{shown, settled}
 use Rattle.settle.proofs.SameLaws.{fed-below}
 use Rattle.rowwise.specs.Ready.{WorkReady, Stepped}
-use Rattle.rowwise.specs.Sums.{fedAt, stepBy, step}
+use Rattle.rowwise.specs.Sums.{stepBy, settledAt, step}
 use Rattle.rowwise.specs.WorkOut.{Worked, refused, onSettled, workOut, upFrom}
 use Rattle.rowwise.specs.Working.{Working, everyRow}
 use Rattle.rowwise.proofs.EndLaws.{never-passed, same-answer}
@@ -74,7 +73,7 @@ module _ (l c₀ s₀ c s : List ℕ) (i : ℕ) (v : Passing l c₀ s₀ c s i) 
   pub all-ready : WorkReady l i c s
   all-ready = work-ready l (below i) everyRow c s (v .working) i h (λ f. refl) refl
 
-  settles : settledBy (rowAt l i) (fedAt s i) ≡ settled (viewOf l) (cardRowAt c) i
+  settles : settledAt l i s ≡ settled (viewOf l) (cardRowAt c) i
   settles =
       work-settles l (below i) everyRow c s (v .working) i h refl
       (λ j b g. lt-ltb j i (fed-below l (v .working .feeds) i j b g))
@@ -85,7 +84,7 @@ module _ (l c₀ s₀ c s : List ℕ) (i : ℕ) (v : Passing l c₀ s₀ c s i) 
 
   goes-on :
       calculation l c₀ ≡
-      onSettled i (settledBy (rowAt l i) (fedAt s i)) (λ k. workOut l (upFrom (i + 1) (rows l - (i + 1))) (putCardRow c i k))
+      onSettled i (settledAt l i s) (λ k. workOut l (upFrom (i + 1) (rows l - (i + 1))) (putCardRow c i k))
   unfolding workOut upFrom
   goes-on =
       let e : rows l - i ≡ suc (rows l - suc i) = omega arith in
@@ -97,7 +96,7 @@ module _ (l c₀ s₀ c s : List ℕ) (i : ℕ) (v : Passing l c₀ s₀ c s i) 
       (t : Tested) (a : Answer) (c′ s′ : List ℕ) → t ≡ Refused a → Stepped (step l i c s) t c′ s′ → calculation l c₀ ≡ workedAs
       (Refused a) c′
   unfolding step workedAs stepBy onSettled
-  all-refused t a c′ s′ e z = goes-on ∙ by-cases (settledBy (rowAt l i) (fedAt s i)) (sym e ∙ z .answer)
+  all-refused t a c′ s′ e z = goes-on ∙ by-cases (settledAt l i s) (sym e ∙ z .answer)
     where
       by-cases : (o : Settled) → Refused a ≡ stepBy l i c s o .tested → onSettled i o rest ≡ refused a
       by-cases (Set o) e = absurd (never-passed (sym e))
@@ -105,10 +104,10 @@ module _ (l c₀ s₀ c s : List ℕ) (i : ℕ) (v : Passing l c₀ s₀ c s i) 
 
   pub all-next : (t : Tested) (c′ s′ : List ℕ) → t ≡ Passed → Stepped (step l i c s) t c′ s′ → Passing l c₀ s₀ c′ s′ (i + 1)
   unfolding step stepBy onSettled
-  all-next t c′ s′ p z = by-cases (settledBy (rowAt l i) (fedAt s i)) refl z
+  all-next t c′ s′ p z = by-cases (settledAt l i s) refl z
     where
       by-cases :
-          (o : Settled) → settledBy (rowAt l i) (fedAt s i) ≡ o → Stepped (stepBy l i c s o) t c′ s′ → Passing l c₀ s₀ c′
+          (o : Settled) → settledAt l i s ≡ o → Stepped (stepBy l i c s o) t c′ s′ → Passing l c₀ s₀ c′
           s′ (i + 1)
       by-cases (Set o) e z =
           rw (z .card, z .sums)

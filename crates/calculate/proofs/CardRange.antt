@@ -58,7 +58,7 @@ least-in-range v k i b m =
     }
 
 refused-not-done : {v : View} {a : Answer} → RefusedAt v a → a ≡ Done → ⊥
-refused-not-done (RefusedAt.PICKUP k i u n) e = zero-not-one cc
+refused-not-done (RefusedAt.NO-PICKUP k i why u n) e = zero-not-one cc
 refused-not-done (RefusedAt.DELAY k i u p n) e = zero-not-one cc
 
 module _ (l c : List ℕ) where
@@ -70,7 +70,7 @@ module _ (l c : List ℕ) where
       of-gets (Gets.ROOM s n) q = absurd (zero-not-one cc)
       of-gets (Gets.FIELD s r j k f) q = absurd (zero-not-one cc)
       of-gets (Gets.TREE s r a j f) q = absurd (zero-not-one cc)
-      of-gets (Gets.PICKUP-or-DELAY s r a b z) q = absurd (refused-not-done z q)
+      of-gets (Gets.UNSETTLED s r a b z) q = absurd (refused-not-done z q)
       of-gets (Gets.DONE s r a b k m) q =
           least-in-range (viewOf l) (cardRowAt (whole l c .card)) i (a i h .bounded) (accepted-least l c s r a b e i h)
 

@@ -31,7 +31,7 @@ use Rattle.settle.proofs.SameLaws.{settled-same, fed-below}
 use Rattle.settle.proofs.SettledTheorems.{least-settled, no-pickup-exactly, no-delay-exactly}
 use Rattle.rowwise.specs.WorkOut.{refused, onSettled, onPassed, workOut, upFrom}
 use Rattle.calculate.specs.Gets.{Gets}
-use Rattle.calculate.specs.Refused.{UpTo, RefusedAt, PICKUP, DELAY}
+use Rattle.calculate.specs.Refused.{UpTo, RefusedAt, NO-PICKUP, DELAY}
 use Rattle.calculate.specs.Whole.{ending, calculation, whole}
 use Rattle.calculate.proofs.Demand2.{accepted-meets, settings-accepted, done-or-refused}
 
@@ -88,8 +88,8 @@ module _ (l c : List ℕ) where
     below k i u j g = least-settled (viewOf l) k j (bounded j (omega (arith, u .is-row)) .step-from) (u .rows-below j g)
 
     refused-whole : {x : Answer} → RefusedAt (viewOf l) x → calculation l c ≡ refused x
-    refused-whole (PICKUP k i u n) =
-        refuses l b k i (u .is-row) Pickup (no-pickup-exactly (viewOf l) k i (bounded i (u .is-row) .step-from) .1 n) (below k i u) c r
+    refused-whole (NO-PICKUP k i why u n) =
+        refuses l b k i (u .is-row) (Pickup why) (no-pickup-exactly (viewOf l) k i (bounded i (u .is-row) .step-from) why .1 n) (below k i u) c r
     refused-whole (DELAY k i u p n) =
         refuses l b k i (u .is-row) Delay (no-delay-exactly (viewOf l) k i (bounded i (u .is-row) .step-from) .1 (p, n)) (below k i u) c r
 
@@ -101,7 +101,7 @@ module _ (l c : List ℕ) where
       rw (get-size l (length c) (SizeGets.passed s r), get-rows l (size-rows l s) (RowsGet.FIELD i k f))
   get-whole (Gets.TREE s r a i f) =
       rw (get-size l (length c) (SizeGets.passed s r), get-rows l (size-rows l s) (RowsGet.TREE i a f))
-  get-whole (Gets.PICKUP-or-DELAY s r a b z) = rw (calculated s r a b, refused-whole s r a b z)
+  get-whole (Gets.UNSETTLED s r a b z) = rw (calculated s r a b, refused-whole s r a b z)
   get-whole (Gets.DONE s r a b k m) = settings-accepted l c s r a b k m
 
   whole-gets : Gets l c (whole l c .answer)
@@ -116,7 +116,7 @@ module _ (l c : List ℕ) where
       by-rows s r (RowsGet.passed a b) =
           ⊎-elim
           (λ d. given (Gets.DONE s r a b (cardRowAt (whole l c .card)) (accepted-meets l c s r a b d)))
-          (λ z. Gets.PICKUP-or-DELAY s r a b z)
+          (λ z. Gets.UNSETTLED s r a b z)
           (done-or-refused l c s r a b)
 
       by-size : {t : Tested} → SizeGets l (length c) t → Gets l c (whole l c .answer)

@@ -4,7 +4,7 @@
 --     accepted-exactly        the two together
 --     no-lower-no-shorter     no other set that does has a lower pickup or a shorter delay in any row
 --     cutoff-column           the cutoff column is section 3's, which `cutoff-exactly` of settle says by inequalities
---     refused-names           any other list gets 6 or 7 at the first row that no pickup, or else no delay, fits
+--     refused-names           any other list gets 11, 12, 13 or 7 at the first row that no pickup, or else no delay, fits
 --     past-the-card-kept, refused-card-kept      what stands in the lent card otherwise
 -- `whole` is the definition that the public entry's contract cites (specs/Whole.antt).
 use mathlib.Core.Path.{_≡_, refl, sym, ap, _∙_}
@@ -16,6 +16,7 @@ use lib.ListN.{length, drop}
 use Rattle.fold.proofs.BoolLaws.{zero-not-one}
 use Rattle.answers.specs.declared.Answer.{Answer}
 use Rattle.answers.specs.declared.Answer.the-variants.{Done, Unsettled}
+use Rattle.answers.specs.declared.Cause.{Cause}
 use Rattle.answers.specs.declared.Reason.{Reason}
 use Rattle.answers.specs.declared.Reason.the-variants.{Pickup, Delay}
 use Rattle.answers.specs.declared.Tested.{Tested}
@@ -32,10 +33,11 @@ use Rattle.rows.proofs.ExactLaws.{get-size, size-rows}
 use Rattle.settle.specs.Settle.{cutoffOf, printed}
 use Rattle.settle.specs.Inequalities.{LeastRow, RowSettled}
 use Rattle.settle.proofs.SameLaws.{fed-below}
+use Rattle.settle.proofs.CauseTheorems.{cause-no-pickup}
 use Rattle.settle.proofs.SettledTheorems.{settled-least}
 use Rattle.rowwise.specs.WorkOut.{Worked, finished, refused, onPassed}
 use Rattle.calculate.specs.Meets.{PickupsMeet, DelaysMeet, Meets}
-use Rattle.calculate.specs.Refused.{RefusedAt, PICKUP, DELAY}
+use Rattle.calculate.specs.Refused.{RefusedAt, NO-PICKUP, DELAY}
 use Rattle.calculate.specs.Whole.{Result, ending, calculation, whole}
 use Rattle.calculate.proofs.FrameLaws.{calculation-keeps}
 use Rattle.calculate.proofs.LeastLaws.{pickups-under, pickup-fits, delays-under, delay-fits}
@@ -47,7 +49,7 @@ use Rattle.calculate.proofs.SettledLaws.{calculation-settled}
 unsettled-not-done : {row : ℕ} {why : Reason} → Unsettled row why ≡ Done → ⊥
 unsettled-not-done e = zero-not-one cc
 
-pickup-not-delay : {row row′ : ℕ} → Unsettled row Pickup ≡ Unsettled row′ Delay → ⊥
+pickup-not-delay : {row row′ : ℕ} {why : Cause} → Unsettled row (Pickup why) ≡ Unsettled row′ Delay → ⊥
 pickup-not-delay e = zero-not-one cc
 
 module _ (l c : List ℕ) (size : RightSize l) (room : HasRoom l (length c)) (a : InRange l) (b : Feeds l) where
@@ -84,7 +86,7 @@ module _ (l c : List ℕ) (size : RightSize l) (room : HasRoom l (length c)) (a 
 
   -- a refusal by row is no acceptance
   never-done : {x : Answer} → RefusedAt v x → x ≡ Done → ⊥
-  never-done (PICKUP k i u n) e = unsettled-not-done e
+  never-done (NO-PICKUP k i why u n) e = unsettled-not-done e
   never-done (DELAY k i u p n) e = unsettled-not-done e
 
   every-row-settled : whole l c .answer ≡ Done → (j : ℕ) → j < rows l → RowSettled v card j
@@ -104,15 +106,15 @@ module _ (l c : List ℕ) (size : RightSize l) (room : HasRoom l (length c)) (a 
   unfolding v card
   accepted-meets e = least-meets v card (accepted-least e)
 
-  -- pickups that meet P1 to P4: no row is refused with PICKUP, and none of the card's is higher
+  -- pickups that meet P1 to P4: no row is refused with RANGE, OWN ZONE or BACKUP, and none of the card's is higher
   module _ (k : Settings) (m : PickupsMeet (viewOf l) k) where
-    pub pickups-exist : (row : ℕ) → whole l c .answer ≡ Unsettled row Pickup → ⊥
+    pub pickups-exist : (row : ℕ) (why : Cause) → whole l c .answer ≡ Unsettled row (Pickup why) → ⊥
     unfolding v
-    pickups-exist row e = by-cases ended
+    pickups-exist row why e = by-cases ended
       where
         by-cases : Ended → ⊥
         by-cases (accepted d f) = unsettled-not-done (sym e ∙ d)
-        by-cases (refused-by x d (PICKUP s i u n)) = pickup-fits v (fed-below l b) s k m i (u .is-row) (u .rows-below) n
+        by-cases (refused-by x d (NO-PICKUP s i why u n)) = pickup-fits v (fed-below l b) s k m i (u .is-row) (u .rows-below) (cause-no-pickup v s i n)
         by-cases (refused-by x d (DELAY s i u p n)) = pickup-not-delay (sym e ∙ d)
 
     pub no-lower-pickup : whole l c .answer ≡ Done → (i : ℕ) → i < rows l → cardRowAt (whole l c .card) i .pickup ≤ k i .pickup
@@ -127,7 +129,7 @@ module _ (l c : List ℕ) (size : RightSize l) (room : HasRoom l (length c)) (a 
       where
         by-cases : Ended → ⊥
         by-cases (accepted d f) = unsettled-not-done (sym e ∙ d)
-        by-cases (refused-by x d (PICKUP s i u n)) = pickup-not-delay (sym d ∙ e)
+        by-cases (refused-by x d (NO-PICKUP s i why u n)) = pickup-not-delay (sym d ∙ e)
         by-cases (refused-by x d (DELAY s i u p n)) = delay-fits v (fed-below l b) s k m i (u .is-row) (u .rows-below) n
 
     pub no-shorter-delay : whole l c .answer ≡ Done → (i : ℕ) → i < rows l → cardRowAt (whole l c .card) i .delay ≤ k i .delay
@@ -141,7 +143,7 @@ module _ (l c : List ℕ) (size : RightSize l) (room : HasRoom l (length c)) (a 
       where
         by-cases : Ended → whole l c .answer ≡ Done
         by-cases (accepted d f) = d
-        by-cases (refused-by x d (PICKUP s i u n)) = absurd (pickups-exist k (m .pickups) (i + 1) d)
+        by-cases (refused-by x d (NO-PICKUP s i why u n)) = absurd (pickups-exist k (m .pickups) (i + 1) why d)
         by-cases (refused-by x d (DELAY s i u p n)) = absurd (delays-exist k (m .delays) (i + 1) d)
 
     pub no-lower-no-shorter :

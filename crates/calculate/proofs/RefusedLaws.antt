@@ -23,7 +23,7 @@ use Rattle.settle.specs.Settle.{shown, settled}
 use Rattle.settle.proofs.SettledTheorems.{settled-least, no-pickup-exactly, no-delay-exactly}
 use Rattle.rowwise.specs.WorkOut.{refused, onSettled, workOut, upFrom}
 use Rattle.rowwise.proofs.EndLaws.{never-finished, same-refusal}
-use Rattle.calculate.specs.Refused.{UpTo, RefusedAt, PICKUP, DELAY}
+use Rattle.calculate.specs.Refused.{UpTo, RefusedAt, NO-PICKUP, DELAY}
 use Rattle.calculate.specs.Whole.{calculation}
 use Rattle.calculate.proofs.SettledLaws.{Settles, next-settled}
 
@@ -47,7 +47,7 @@ module _ (l : List ℕ) (a : AllBounded (viewOf l)) (b : Feeds l) where
           record { is-row = h; rows-below = λ j g. settled-least (viewOf l) (cardRowAt c) j (a j (omega arith) .step-from) (all j g) }
 
       named : (why : Reason) → settled (viewOf l) (cardRowAt c) i ≡ Unset why → RefusedAt (viewOf l) (Unsettled (i + 1) why)
-      named Pickup s = PICKUP (cardRowAt c) i up-to (no-pickup-exactly (viewOf l) (cardRowAt c) i (a i h .step-from) .0 s)
+      named (Pickup why) s = NO-PICKUP (cardRowAt c) i why up-to (no-pickup-exactly (viewOf l) (cardRowAt c) i (a i h .step-from) why .0 s)
       named Delay s =
           let d = no-delay-exactly (viewOf l) (cardRowAt c) i (a i h .step-from) .0 s in
           DELAY (cardRowAt c) i up-to (d .0) (d .1)

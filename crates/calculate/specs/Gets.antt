@@ -1,5 +1,5 @@
 -- [01 §4] DEMAND 1, for a list lent as numbers: the answer that it gets, each number exactly where it is due, all that comes before it
--- in the order (2, 3, 4 over all rows, 5 over all rows, then row by row 6 before 7) absent. Definitions only.
+-- in the order (2, 3, 4 over all rows, 5 over all rows, then row by row 11, 12 or 13 before 7) absent. Definitions only.
 use mathlib.Core.List.{List}
 use Prim.Native.Nat.{ℕ, _+_}
 use lib.ListN.{length}
@@ -16,5 +16,5 @@ pub data Gets (l c : List ℕ) : Answer → Type 0 where
   ROOM : RightSize l → (HasRoom l (length c) → ⊥) → Gets l c Room
   FIELD : RightSize l → HasRoom l (length c) → (i k : ℕ) → FirstOutOfRange l i k → Gets l c (Field (i + 1) (k + 1))
   TREE : RightSize l → HasRoom l (length c) → InRange l → (i : ℕ) → FirstMisfed l i → Gets l c (Tree (i + 1))
-  PICKUP-or-DELAY : {a : Answer} → RightSize l → HasRoom l (length c) → InRange l → Feeds l → RefusedAt (viewOf l) a → Gets l c a
+  UNSETTLED : {a : Answer} → RightSize l → HasRoom l (length c) → InRange l → Feeds l → RefusedAt (viewOf l) a → Gets l c a
   DONE : RightSize l → HasRoom l (length c) → InRange l → Feeds l → (k : Settings) → Meets (viewOf l) k → Gets l c Done

@@ -9,11 +9,11 @@ use Rattle.layout.specs.Fields.{inBounds}
 use Rattle.rows.specs.Tests.{sizeTest, rowsTest, fieldRight, faultAfter, rowFault, feedsRight, treeAnswer, treeTest, fieldAnswer}
 use Rattle.settle.specs.Conditions.{returnsAfterSelfStart, clearOf, seesOwnZone, backsUp, withinDelays}
 use Rattle.settle.specs.Conditions.{margin, marginBetween, gradedAbove, staysClear, seesNear}
-use Rattle.settle.specs.Settle.{meetsPickup, meetsDelay, fitting, cutoffOf, printed, shown, outcomeOf, settled}
+use Rattle.settle.specs.Settle.{aboveLoad, unbacked, firstUnbacked, leastAboveLoad, backed, judged, picked, meetsDelay, fitting, cutoffOf, printed, shown, outcomeOf, settled}
 use Rattle.rowwise.specs.WorkOut.{onSettled, workOut, upFrom, onPassed}
 use Rattle.calculate.specs.Whole.{ending, calculation, whole}
 use Rattle.cases.specs.Case.{Worked, comes, worked}
-use Rattle.cases.specs.Cases.{table, twoRows, twoCard, laterCard, blank, firstRow, underOne, pickups}
+use Rattle.cases.specs.Cases.{table, twoRows, twoCard, backedCard, laterCard, blank, firstRow, underOne, pickups}
 use Rattle.path.specs.Path.{pathFrom, pathOf}
 use Rattle.change.specs.Edit.{putList, editRight, editTest}
 use Rattle.change.specs.Replace.{reworked, outcome, replaced}
@@ -21,7 +21,7 @@ use Rattle.path.specs.CardTest.{cardRight, cardAnswer, cardTest}
 
 pub cases : map (λ (w : Worked). comes (w .case)) table ≡ map (λ (w : Worked). w .is) table
 unfolding first sumTo every count valueAt leastOn sizeTest rowsTest inBounds fieldRight faultAfter rowFault feedsRight treeAnswer treeTest fieldAnswer
-    returnsAfterSelfStart clearOf seesOwnZone backsUp withinDelays margin marginBetween gradedAbove staysClear seesNear meetsPickup meetsDelay fitting cutoffOf
-    printed shown outcomeOf settled putCardRow onSettled workOut upFrom ending calculation whole comes worked table twoRows twoCard laterCard blank
+    returnsAfterSelfStart clearOf seesOwnZone backsUp withinDelays margin marginBetween gradedAbove staysClear seesNear aboveLoad unbacked firstUnbacked
+    leastAboveLoad backed judged picked meetsDelay fitting cutoffOf printed shown outcomeOf settled putCardRow onSettled workOut upFrom ending calculation whole comes worked table twoRows twoCard backedCard laterCard blank
     firstRow underOne pickups pathFrom pathOf putList editRight editTest cardRight cardAnswer cardTest onPassed reworked outcome replaced
 cases = refl

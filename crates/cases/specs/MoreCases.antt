@@ -1,4 +1,4 @@
--- [01 §2, §3, §4], [02 §5] Worked cases beside the starred ones: kinds 2 and 3, devices 2 and 3, unequal volts, every refusal
+-- [01 §2, §3, §4], [02 §2, §5] Worked cases beside the starred ones: kinds 2 and 3, devices 2 and 3, unequal volts, every refusal
 -- number, and pairs of faults that show the order. The numbers were worked out from the documents by hand. Rows, fields and
 -- places are counted from 1, as there. Definitions only.
 use mathlib.Core.List.{List, [], _∷_, _++_}
@@ -54,17 +54,25 @@ keptIn l c place new number at field = worked (replaces l c place new) (replacin
 abbrev kept : List ℕ → ℕ → List ℕ → ℕ → ℕ → ℕ → Worked
 kept = keptIn plant
 
+-- a card that does not belong to the plant, with this pickup of the motor
+abbrev found : ℕ → List ℕ
+found I = 9 ∷ 9 ∷ 9 ∷ I ∷ 50 ∷ 0 ∷ 9 ∷ 9 ∷ 9 ∷ 77 ∷ []
+
 -- conditions at equality and one off, in a whole calculation
 unfoldable pub conditions : List Worked
 conditions =
     done plant plantCard
     -- P2: 152,899 is not enough, and the next pickup offered is 162,899
     ∷ done (with (with (with plant 3 12 2899) 3 8 300000) 1 8 500000) (cardOf 162899 500 302899)
-    -- P3 and P4 one off; the motor backed too, and one off
-    ∷ refused (with plant 3 8 229349) 6 3 0
-    ∷ refused (with plant 1 8 458699) 6 3 0
+    -- the greatest pickup offered is the least that P2 allows, and one off
+    ∷ done (with plant 3 13 152900) (cardOf 152900 500 0)
+    ∷ refused (with plant 3 13 152899) 11 3 0
+    -- P3 and P4 one off; the motor backed too, and one off: it is named, or the line where that fails too
+    ∷ refused (with plant 3 8 229349) 12 3 0
+    ∷ refused (with plant 1 8 458699) 13 3 1
     ∷ done (with (with plant 2 18 1) 2 8 764500) plantCard
-    ∷ refused (with (with plant 2 18 1) 2 8 764499) 6 3 0
+    ∷ refused (with (with plant 2 18 1) 2 8 764499) 13 3 2
+    ∷ refused (with (with (with plant 2 18 1) 2 8 700000) 1 8 458699) 13 3 1
     -- the line not backed needs no such far
     ∷ done (with (with plant 1 18 0) 1 8 458699) plantCard
     -- D2: 0 + 500 above row 1, by its device; with device 1 there, 100 + 300 above row 2, by row 3's own; with device 2 in row 2,
@@ -79,9 +87,14 @@ conditions =
     ∷ done (with plant 1 10 725999) (165000 ∷ 0 ∷ 0 ∷ 412500 ∷ 100 ∷ 912500 ∷ 152900 ∷ 500 ∷ 302900 ∷ 77 ∷ [])
     ∷ done (with plant 2 10 1824999) (165000 ∷ 0 ∷ 605000 ∷ 412500 ∷ 100 ∷ 0 ∷ 152900 ∷ 500 ∷ 302900 ∷ 77 ∷ [])
     ∷ done (with plant 3 10 605799) (cardOf 152900 500 0)
-    -- 6 and 7 in one row; 7 in row 1 before 6 in row 3
-    ∷ refused (with (with plant 3 8 229349) 3 17 499) 6 3 0
+    -- 11, 12 or 13 and 7 in one row; 12 and 13; 11 and 12; 7 in row 1 before 12 in row 3; 12 in row 1 before 11 in row 3
+    ∷ refused (with (with plant 3 13 152899) 3 17 499) 11 3 0
+    ∷ refused (with (with plant 3 8 229349) 3 17 499) 12 3 0
+    ∷ refused (with (with plant 1 8 458699) 3 17 499) 13 3 1
+    ∷ refused (with (with plant 1 8 458699) 3 8 229349) 12 3 0
+    ∷ refused (with (with plant 3 13 152899) 3 8 1) 11 3 0
     ∷ refused (with (with plant 3 8 229349) 1 16 1001) 7 1 0
+    ∷ refused (with (with plant 3 13 152899) 1 8 1) 12 1 0
     ∷ []
 
 -- 2, 3, 4 and 5, and their order
@@ -114,9 +127,9 @@ faults =
     ∷ refused (with plant 1 2 4) 5 1 0
     ∷ refused (with plant 2 2 0) 5 2 0
     ∷ refused (with plant 3 2 1) 5 3 0
-    -- 5 before 6 and 7: row 1 without a pickup
+    -- 5 before 12: row 1 blind in its own zone
     ∷ refused (with (with plant 2 2 0) 1 8 1) 5 2 0
-    ∷ refused (with plant 1 8 1) 6 1 0
+    ∷ refused (with plant 1 8 1) 12 1 0
     ∷ []
 
 -- each field below its least number and above its greatest
@@ -143,11 +156,11 @@ ranges =
     ∷ outside 16 100001
     ∷ outside 17 100001
     ∷ outside 18 2
-    -- every field at its least number, and every field but the first two at its greatest: in range, and no pickup
-    ∷ refused (1 ∷ 0 ∷ 1 ∷ 100 ∷ 1 ∷ 1000 ∷ 800 ∷ 1 ∷ 1 ∷ 1 ∷ 1000 ∷ 1 ∷ 1 ∷ 1 ∷ 1 ∷ 0 ∷ 0 ∷ 0 ∷ []) 6 1 0
+    -- every field at its least number, and every field but the first two at its greatest: in range, and 11
+    ∷ refused (1 ∷ 0 ∷ 1 ∷ 100 ∷ 1 ∷ 1000 ∷ 800 ∷ 1 ∷ 1 ∷ 1 ∷ 1000 ∷ 1 ∷ 1 ∷ 1 ∷ 1 ∷ 0 ∷ 0 ∷ 0 ∷ []) 11 1 0
     ∷ refused
     (1 ∷ 0 ∷ 3 ∷ 500000 ∷ 100000000 ∷ 10000 ∷ 1000 ∷ 100000000 ∷ 100000000 ∷ 100000000 ∷ 2000 ∷ 100000000 ∷ 100000000 ∷ 100000000 ∷
-    3 ∷ 100000 ∷ 100000 ∷ 1 ∷ []) 6 1 0
+    3 ∷ 100000 ∷ 100000 ∷ 1 ∷ []) 11 1 0
     ∷ []
 
 -- replacements: what they leave, and every refusal in its order
@@ -155,14 +168,22 @@ unfoldable pub replacements : List Worked
 replacements =
     -- the line with another far: its own card row stays, and the transformer is settled anew
     becomes plant plantCard 1 (with plant 1 8 500000) plantCard
-    ∷ kept plantCard 1 (row 1 (with plant 1 8 458699)) 6 3 0
+    ∷ kept plantCard 1 (row 1 (with plant 1 8 458699)) 13 3 1
     -- the transformer by itself
     ∷ becomes plant plantCard 3 (with plant 3 16 500) plantCard
     ∷ becomes plant plantCard 3 (with plant 3 10 605799) (cardOf 152900 500 0)
     -- a card that does not belong to the list: the motor's row is read as it is found, those of the path are not read. P2:
     -- 11 × (300,000 × 6,000 + 100,000 × 10,000) / (10 × 25,000) = 123,200, so 132,900
-    ∷ becomes plant (9 ∷ 9 ∷ 9 ∷ 300000 ∷ 50 ∷ 0 ∷ 9 ∷ 9 ∷ 9 ∷ 77 ∷ []) 1 plant
+    ∷ becomes plant (found 300000) 1 plant
     (165000 ∷ 0 ∷ 605000 ∷ 300000 ∷ 50 ∷ 0 ∷ 132900 ∷ 500 ∷ 302900 ∷ 77 ∷ [])
+    -- so P4 asks 12 × 132,900 × 25,000 = 10 × 398,700 × 10,000 of the line, and P3 15 × 132,900 = 10 × 199,350
+    ∷ becomes plant (found 300000) 1 (with plant 1 8 398700) (165000 ∷ 0 ∷ 605000 ∷ 300000 ∷ 50 ∷ 0 ∷ 132900 ∷ 500 ∷ 302900 ∷ 77 ∷ [])
+    ∷ kept (found 300000) 1 (row 1 (with plant 1 8 398699)) 13 3 1
+    ∷ becomes plant (set (found 300000) 1 0) 3 (with plant 3 8 199350) (9 ∷ 0 ∷ 9 ∷ 300000 ∷ 50 ∷ 0 ∷ 132900 ∷ 500 ∷ 302900 ∷ 77 ∷ [])
+    ∷ kept (set (found 300000) 1 0) 3 (row 3 (with plant 3 8 199349)) 12 3 0
+    -- 11 × (1,359,469 × 6,000 + 100,000 × 10,000) / (10 × 25,000) = 402,899.816, and the greatest offered is 402,900
+    ∷ kept (found 1359469) 1 (row 1 plant) 12 3 0
+    ∷ kept (found 1359470) 1 (row 1 plant) 11 3 0
     -- 2 and 3
     ∷ worked (replaces (drop 1 plant) plantCard 1 (row 1 plant)) (replacing (2 ∷ 0 ∷ 0 ∷ []) (drop 1 plant) plantCard)
     ∷ kept (take 8 plantCard) 0 (row 1 plant) 3 0 0
@@ -179,7 +200,7 @@ replacements =
     ∷ kept plantCard 3 (row 3 (with plant 3 3 3)) 5 1 0
     ∷ kept (0 ∷ drop 1 plantCard) 2 (row 2 (with plant 2 3 4)) 4 2 3
     ∷ kept (0 ∷ drop 1 plantCard) 3 (row 3 (with plant 3 3 3)) 5 1 0
-    -- 9: each column, on the path or off it, the first row; before 6 and 7
+    -- 9: each column, on the path or off it, the first row; before 12 and 7
     ∷ kept (set plantCard 3 0) 1 (row 1 plant) 9 2 0
     ∷ kept (set plantCard 3 100000001) 1 (row 1 plant) 9 2 0
     ∷ kept (set plantCard 4 100001) 1 (row 1 plant) 9 2 0
@@ -188,10 +209,10 @@ replacements =
     ∷ kept (set plantCard 6 0) 1 (row 1 plant) 9 3 0
     ∷ kept (set plantCard 3 0) 1 (row 1 (with plant 1 8 1)) 9 2 0
     ∷ kept (set plantCard 3 0) 1 (row 1 (with plant 1 16 1001)) 9 2 0
-    -- 6 and 7 along the path, 6 first in a row; the motor is not on it
-    ∷ kept plantCard 1 (row 1 (with plant 1 8 1)) 6 1 0
+    -- 12 and 7 along the path, 12 first in a row; the motor is not on it
+    ∷ kept plantCard 1 (row 1 (with plant 1 8 1)) 12 1 0
     ∷ kept plantCard 1 (row 1 (with plant 1 16 1001)) 7 1 0
-    ∷ kept plantCard 1 (row 1 (with (with plant 1 8 1) 1 16 1001)) 6 1 0
+    ∷ kept plantCard 1 (row 1 (with (with plant 1 8 1) 1 16 1001)) 12 1 0
     ∷ kept plantCard 2 (row 2 (with plant 2 17 99)) 7 2 0
     ∷ kept plantCard 3 (row 3 (with plant 3 17 499)) 7 3 0
     ∷ []

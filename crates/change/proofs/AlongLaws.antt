@@ -35,7 +35,7 @@ use Rattle.calculate.proofs.SettledLaws.{Settles}
 use Rattle.path.specs.Path.{OnPath, pathOf, onPath}
 use Rattle.path.proofs.OnPathLaws.{on-path-exactly, off-path-exactly}
 use Rattle.path.proofs.PathLaws.{Climbs, fed-climbs, source-last, path-source, path-fed, on-fed, on-self, on-above, on-within, off-below}
-use Rattle.change.specs.AnyCard.{AsFound, PathUpTo, PathRefused, PICKUP, DELAY}
+use Rattle.change.specs.AnyCard.{AsFound, PathUpTo, PathRefused, NO-PICKUP, DELAY}
 use Rattle.change.proofs.SkipLaws.{put-settled, put-settles}
 
 module _ (l : List ℕ) (a : AllBounded (viewOf l)) (b : Feeds l) (i : ℕ) (h : i < rows l) (c₀ : List ℕ) where
@@ -75,9 +75,9 @@ module _ (l : List ℕ) (a : AllBounded (viewOf l)) (b : Feeds l) (i : ℕ) (h :
     stops why e = stopped (Unsettled (x + 1) why) (by-reason why e)
       where
         by-reason : (why : Reason) → settled (viewOf l) (cardRowAt c) x ≡ Unset why → PathRefused l i c₀ (Unsettled (x + 1) why)
-        by-reason Pickup e =
-            PICKUP (cardRowAt c) x up-to
-            (no-pickup-exactly (viewOf l) (cardRowAt c) x (a x (r .within) .step-from) .0 e)
+        by-reason (Pickup why) e =
+            NO-PICKUP (cardRowAt c) x why up-to
+            (no-pickup-exactly (viewOf l) (cardRowAt c) x (a x (r .within) .step-from) why .0 e)
         by-reason Delay e =
             let d = no-delay-exactly (viewOf l) (cardRowAt c) x (a x (r .within) .step-from) .0 e in
             DELAY (cardRowAt c) x up-to (d .0) (d .1)

@@ -2,7 +2,7 @@
 --     path-meets      done, the rows of the path meet P1 to D2 at the numbers found off it
 --     path-least      no other settings that do have a lower pickup or a shorter delay in any row of the path
 --     path-exactly    it is done exactly when some settings do
---     path-refused    any other is refused with 6 or 7 at the first row of the path that no pickup, or else no delay, fits
+--     path-refused    any other is refused with 11, 12, 13 or 7 at the first row of the path that no pickup, or else no delay, fits
 --     path-cutoffs    done, the cutoff column of the path's rows is section 3's
 -- `replaced` is the definition that the public entry's contract cites (specs/Replace.antt).
 use mathlib.Core.Path.{_≡_, sym, ap, _∙_}

@@ -1,6 +1,6 @@
 -- DEMAND 1 for a replacement, of any list, card, place and new row (specs/Gets.antt):
 --     replacement-gets    it gets an answer exactly when the rules give it, at the first place, with all that comes before it in the
---                         order 2, 3, 10, 4, 5, 9, then 6 and 7 along the path, absent; and none otherwise
+--                         order 2, 3, 10, 4, 5, 9, then 11, 12 or 13 before 7 along the path, absent; and none otherwise
 --     refused-as-lent     any refusal leaves list and card as they were lent
 -- `replaced` is the definition that the public entry's contract cites (specs/Replace.antt).
 use mathlib.Core.Path.{_≡_, refl, sym, ap, _∙_, subst}
@@ -72,7 +72,7 @@ module _ (l c : List ℕ) (place : ℕ) (row : List ℕ) where
       by-cases (Ended.done d found least) =
           absurd
           (never-refused l′ (p .feeds) (place - 1) (is-row (p .fits)) c (cardRowAt (replaced l c place row .card)) (path-meets l c place row p d) z)
-      by-cases (Ended.refused-by x d z′) = d ∙ same-refusal l′ (p .feeds) (place - 1) (is-row (p .fits)) c z′ z
+      by-cases (Ended.refused-by x d z′) = d ∙ same-refusal l′ (p .feeds) (place - 1) (is-row (p .fits)) c (λ j h. p .in-range j h .bounded) z′ z
 
   get : {a : Answer} → ReplacementGets l c place row a → answer ≡ a
   get (ReplacementGets.COUNT n) = by-size Count (SizeGets.COUNT n)
@@ -83,7 +83,7 @@ module _ (l c : List ℕ) (place : ℕ) (row : List ℕ) where
   get (ReplacementGets.FIELD i k f w) = by-rows f _ (RowsGet.FIELD i k w)
   get (ReplacementGets.TREE i f r w) = by-rows f _ (RowsGet.TREE i r w)
   get (ReplacementGets.CARD i f r b w) = by-card f _ r b (CardGets.CARD i w)
-  get (ReplacementGets.PICKUP-or-DELAY p z) = by-path _ p z
+  get (ReplacementGets.UNSETTLED p z) = by-path _ p z
   get (ReplacementGets.DONE k p m) = path-accepted l c place row p k m
 
   -- one of them is given
@@ -95,7 +95,7 @@ module _ (l c : List ℕ) (place : ℕ) (row : List ℕ) where
 
       path : (p : Passes l c place row) → Ended l c place row p → ReplacementGets l c place row answer
       path p (Ended.done d found least) = given (ReplacementGets.DONE (cardRowAt (replaced l c place row .card)) p (path-meets l c place row p d))
-      path p (Ended.refused-by x d z) = given (ReplacementGets.PICKUP-or-DELAY p z)
+      path p (Ended.refused-by x d z) = given (ReplacementGets.UNSETTLED p z)
 
       cards : Fits l c place row → InRange l′ → Feeds l′ → {t : Tested} → CardGets l′ c t → ReplacementGets l c place row answer
       cards f r b (CardGets.passed k) =

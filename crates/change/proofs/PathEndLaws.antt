@@ -24,7 +24,7 @@ use Rattle.path.specs.Path.{OnPath, pathOf}
 use Rattle.path.proofs.CardTestLaws.{get-card}
 use Rattle.path.proofs.OnPathLaws.{path-on}
 use Rattle.path.proofs.PathLaws.{on-within}
-use Rattle.change.specs.AnyCard.{AsFound, PathRefused, PICKUP, DELAY}
+use Rattle.change.specs.AnyCard.{AsFound, PathRefused, NO-PICKUP, DELAY}
 use Rattle.change.specs.Gets.{made, Passes}
 use Rattle.change.specs.Replace.{Replaced, reworked, outcome, replaced}
 use Rattle.change.proofs.AlongLaws.{Climbed, climbed}
@@ -36,7 +36,7 @@ unsettled-not-done e = zero-not-one cc
 
 -- a refusal along the path is no Done
 pub refused-not-done : {l : List ℕ} {i : ℕ} {c : List ℕ} {x : Answer} → PathRefused l i c x → x ≡ Done → ⊥
-refused-not-done (PICKUP k j u n) e = unsettled-not-done e
+refused-not-done (NO-PICKUP k j why u n) e = unsettled-not-done e
 refused-not-done (DELAY k j u p n) e = unsettled-not-done e
 
 module _ (l c : List ℕ) (place : ℕ) (row : List ℕ) (p : Passes l c place row) where

@@ -2,7 +2,7 @@
 use mathlib.Core.Path.{_≡_, refl, sym, ap, _∙_, subst}
 use mathlib.Core.Bool.{Bool, true, false, cond, _&&_}
 use mathlib.Core.List.{List, [], _∷_}
-use Prim.Native.Nat.{ℕ, _*_, _/_, _%_}
+use Prim.Native.Nat.{ℕ, _+_, _*_, _/_, _%_}
 use lib.Dec.{eqb, leb}
 use Rattle.fold.specs.declared.Found.{Found}
 use Rattle.fold.specs.declared.Found.the-variants.{At, Nothing}
@@ -12,7 +12,7 @@ use Rattle.answers.specs.declared.Answer.the-variants.{Done, Count, Room, Edit}
 use Rattle.answers.specs.declared.Tested.{Tested}
 use Rattle.answers.specs.declared.Tested.the-variants.{Passed, Refused}
 use Rattle.answers.specs.Answer.{numberOf}
-use Rattle.answers.proofs.AnswerLaws.{reason-not-done, reason-not-edit}
+use Rattle.answers.proofs.AnswerLaws.{unsettled-not-done, unsettled-not-edit}
 use Rattle.layout.specs.declared.CardRow.{CardRow}
 use Rattle.layout.specs.Card.{cardRowAt, putCardRow}
 use Rattle.layout.specs.Counts.{fieldCount, columnCount, listMost}
@@ -90,7 +90,7 @@ work-later l (i ∷ is) c a e = by-cases (settled (viewOf l) (cardRowAt c) i) e 
         ((k : CardRow) → workOut l is (putCardRow c i k) ≡ refused a → Later a) → Later a
     by-cases (Set o) e ih = ih (shown o) e
     by-cases (Unset why) e ih =
-        subst Later (same-refusal e) (record { refuses = record { not-done = reason-not-done why }; not-edit = reason-not-edit why })
+        subst Later (same-refusal e) (record { refuses = record { not-done = unsettled-not-done (i + 1) why }; not-edit = unsettled-not-edit (i + 1) why })
 
 -- a refusal after a test is the test's or what comes next's
 module _ (t : Tested) (w : Worked) where

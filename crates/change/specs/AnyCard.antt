@@ -1,4 +1,4 @@
--- [01 §4] "A replacement reads the card rows off the path as it finds them. If the card doesn't belong to the list, the answer is
+-- [01 §4], [02 §2] "A replacement reads the card rows off the path as it finds them. If the card doesn't belong to the list, the answer is
 -- still fixed: the conditions applied along the path to those numbers." l is the list with the new row in it, i that row, c the
 -- card as it is found, k the settings of every row. Rows are counted from 0. Definitions only.
 use mathlib.Core.Path.{_≡_}
@@ -6,12 +6,13 @@ use mathlib.Core.List.{List}
 use Prim.Native.Nat.{ℕ, _+_, _<_}
 use Rattle.answers.specs.declared.Answer.{Answer}
 use Rattle.answers.specs.declared.Answer.the-variants.{Unsettled}
+use Rattle.answers.specs.declared.Cause.{Cause}
 use Rattle.answers.specs.declared.Reason.the-variants.{Pickup, Delay}
 use Rattle.layout.specs.Card.{cardRowAt}
 use Rattle.layout.specs.List.{rows, rowAt}
 use Rattle.layout.specs.View.{viewOf, Settings}
 use Rattle.path.specs.Path.{OnPath}
-use Rattle.settle.specs.Inequalities.{AvailableOn, PickupMet, DelayMet, SomePickup, NoPickup, NoDelay, LeastRow}
+use Rattle.settle.specs.Inequalities.{AvailableOn, PickupMet, DelayMet, SomePickup, NoDelay, CauseIs, LeastRow}
 
 -- off the path of row i, k has the numbers found on the card
 abbrev pub AsFound : List ℕ → ℕ → List ℕ → Settings → Type 0
@@ -30,9 +31,12 @@ pub record PathUpTo (l : List ℕ) (i : ℕ) (c : List ℕ) (k : Settings) (j : 
   pub off-path : AsFound l i c k
   pub rows-below : (m : ℕ) → OnPath l i m → m < j → LeastRow (viewOf l) k m
 
--- 6 PICKUP and 7 DELAY along the path: no pickup fits the row that is next; or some pickup does, and no delay
+-- 11 RANGE, 12 OWN ZONE and 13 BACKUP, then 7 DELAY, along the path: no pickup fits the row that is next, for this cause; or some
+-- pickup does, and no delay
 pub data PathRefused (l : List ℕ) (i : ℕ) (c : List ℕ) : Answer → Type 0 where
-  PICKUP : (k : Settings) (j : ℕ) → PathUpTo l i c k j → NoPickup (viewOf l) k j → PathRefused l i c (Unsettled (j + 1) Pickup)
+  NO-PICKUP :
+      (k : Settings) (j : ℕ) (why : Cause) → PathUpTo l i c k j → CauseIs (viewOf l) k j why →
+      PathRefused l i c (Unsettled (j + 1) (Pickup why))
   DELAY :
       (k : Settings) (j : ℕ) → PathUpTo l i c k j → SomePickup (viewOf l) k j → NoDelay (viewOf l) k j →
       PathRefused l i c (Unsettled (j + 1) Delay)

@@ -1,6 +1,7 @@
--- [01 §4] Which number and place a replacement gets, for any list, card, place and new row: "2, 3, 10, then 4 and 5 over the list as
--- it would be, then 9 over all rows ascending, then 6 and 7 along the path". Each answer stands with all that comes before it in
--- this order absent. Rows and fields are counted from 0, places in answers from 1. Definitions only.
+-- [01 §4], [02 §2] Which number and place a replacement gets, for any list, card, place and new row: "2, 3, 10, then 4 and 5 over the
+-- list as it would be, then 9 over all rows ascending, then 6 and 7 along the path", with 11, 12 and 13 where 6 stood. Each answer
+-- stands with all that comes before it in this order absent. Rows and fields are counted from 0, places in answers from 1. Definitions
+-- only.
 use mathlib.Core.List.{List}
 use Prim.Native.Nat.{ℕ, _+_, _-_}
 use lib.ListN.{length}
@@ -41,6 +42,6 @@ pub data ReplacementGets (l c : List ℕ) (place : ℕ) (row : List ℕ) : Answe
   CARD :
       (i : ℕ) → Fits l c place row → InRange (made l place row) → Feeds (made l place row) → FirstCardOut (made l place row) c i →
       ReplacementGets l c place row (Card (i + 1))
-  PICKUP-or-DELAY :
+  UNSETTLED :
       {a : Answer} → Passes l c place row → PathRefused (made l place row) (place - 1) c a → ReplacementGets l c place row a
   DONE : (k : Settings) → Passes l c place row → PathMeets (made l place row) (place - 1) c k → ReplacementGets l c place row Done

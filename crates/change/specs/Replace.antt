@@ -1,6 +1,6 @@
 -- [01 §4] The replacement of one row of a list lent as numbers, on a card lent as numbers: the answer, and the list and
--- the card afterwards. The order is 2, 3, 10, then 4 and 5 over the list as it would be, then 9 over all rows, then 6 and 7
--- along the path, the card rows off the path read as they are found. A refusal leaves list and card. Definitions only.
+-- the card afterwards. The order is 2, 3, 10, then 4 and 5 over the list as it would be, then 9 over all rows, then 11,
+-- 12 or 13 before 7 along the path, the card rows off the path read as they are found. A refusal leaves list and card. Definitions only.
 use mathlib.Core.List.{List}
 use Prim.Native.Nat.{ℕ, _-_}
 use lib.ListN.{length}
@@ -12,7 +12,7 @@ use Rattle.change.specs.Edit.{putList, editTest}
 use Rattle.path.specs.Path.{pathOf}
 use Rattle.path.specs.CardTest.{cardTest}
 
--- row i of the list l is new: 4, 5, 9, then 6 and 7 along its path
+-- row i of the list l is new: 4, 5, 9, then 11, 12 or 13 before 7 along its path
 unfoldable pub reworked : List ℕ → ℕ → List ℕ → Worked
 reworked l i c = onPassed (rowsTest l) (onPassed (cardTest l c) (workOut l (pathOf l i) c))
 

@@ -16,7 +16,7 @@ ghost use Rattle.path.specs.Ready.{ReworkReady, Reworked};
 ghost use Rattle.change.specs.Ready.{ExchangeReady, exchanged, Exchanged, Gave};
 ghost use Rattle.change.specs.Replace.{reworked, replaced};
 
-// Row i of the list is new: 4, 5, 9, then 6 and 7 along its path.
+// Row i of the list is new: 4, 5, 9, then 11, 12 or 13 before 7 along its path.
 fn rework(list: &[u64], i: usize, card: &mut [u64]) -> Tested
     requires { ⌜ ReworkReady (now list) i (now card) ⌝ }
     ensures { λ t. ⌜ Reworked (reworked (now (list .entry)) i (now (card .entry))) (now (card .entry)) t (now (card .exit)) ⌝ }

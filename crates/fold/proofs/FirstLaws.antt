@@ -10,6 +10,15 @@ use Rattle.fold.specs.declared.Found.the-variants.{At, Nothing}
 use Rattle.fold.specs.First.{first}
 use Rattle.fold.proofs.BoolLaws.{passes-or-fails, zero-not-one}
 
+-- tests that agree on the n numbers from i on find the same
+pub first-same : (ok ok′ : ℕ → Bool) (n i : ℕ) → ((j : ℕ) → j < i + n → ok j ≡ ok′ j) → first ok i n ≡ first ok′ i n
+unfolding first
+first-same ok ok′ zero i h = refl
+first-same ok ok′ (suc n) i h =
+    let rest = first-same ok ok′ n (suc i) (λ j b. h j (omega arith)) in
+    let e : ok i ≡ ok′ i = h i (omega arith) in
+    rw (rest, e)
+
 module _ (ok : ℕ → Bool) where
   pub first-step-true : (i n : ℕ) → i < n → ok i ≡ true → first ok i (n - i) ≡ At i
   unfolding first

@@ -95,44 +95,6 @@ pub leastOn-no-step : (low high step : ℕ) (ok : ℕ → Bool) → step ≡ 0 �
 unfolding leastOn count first valueAt
 leastOn-no-step low high step ok e = rw (e, div-zero)
 
--- a value that was found counts only where it passes one test more
-abbrev pub capped : (ℕ → Bool) → Found → Found
-capped up (At x) = cond (up x) (At x) Nothing
-capped up Nothing = Nothing
-
--- A test that passes from b on and then only up to some value: the least value from b on decides.
-pub leastOn-capped :
-    (low high step : ℕ) → 0 < step → (ok up : ℕ → Bool) (b : ℕ) → ((x : ℕ) → Available low high step x → ok x ≡ (leb b x && up x)) →
-    ((x y : ℕ) → x ≤ y → up y ≡ true → up x ≡ true) → leastOn low high step ok ≡ capped up (leastOn low high step (leb b))
-leastOn-capped low high step p ok up b same down = by-cases (leastOn low high step (leb b)) refl
-  where
-    refused : (x : ℕ) → Least low high step (leb b) x → up x ≡ false → (y : ℕ) → Available low high step y → ok y ≡ false
-    refused x r u y a =
-        fails (ok y)
-        (λ t.
-        let t′ : (leb b y && up y) ≡ true = sym (same y a) ∙ t in
-        not-both (down x y (r .least y a (and-left (leb b y) (up y) t′)) (and-right (leb b y) (up y) t′)) u)
-
-    by-cases : (f : Found) → leastOn low high step (leb b) ≡ f → leastOn low high step ok ≡ capped up f
-    by-cases (At x) e =
-        let r = leastOn-least low high step p (leb b) x e in
-        ⊎-elim
-        (λ (u : up x ≡ true).
-        rw u
-        (leastOn-is low high step p ok x
-        (record {
-          available = r .available;
-          passes = same x (r .available) ∙ and-both (r .passes) u;
-          least = λ y a t. r .least y a (and-left (leb b y) (up y) (sym (same y a) ∙ t));
-        })))
-        (λ (u : up x ≡ false). rw u (leastOn-none low high step p ok (refused x r u)))
-        (passes-or-fails (up x))
-    by-cases Nothing e =
-        leastOn-none low high step p ok
-        (λ y a.
-        fails (ok y)
-        (λ t. not-both (and-left (leb b y) (up y) (sym (same y a) ∙ t)) (leastOn-nothing low high step p (leb b) e y a)))
-
 -- The least value at or above a bound stands less than a step past `from`, the greater of low and the bound.
 module _ (low high step b from : ℕ) (p : 0 < step) (q : from ≡ max low b) where
   from-low : low ≤ from

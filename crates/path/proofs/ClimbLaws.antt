@@ -20,11 +20,11 @@ use Rattle.layout.specs.View.{viewOf}
 use Rattle.layout.proofs.CardLaws.{putCardRow-back}
 use Rattle.settle.specs.declared.Settled.{Settled}
 use Rattle.settle.specs.declared.Settled.the-variants.{Set, Unset}
-use Rattle.settle.specs.Fed.{settledBy, CardBounded}
+use Rattle.settle.specs.Fed.{CardBounded}
 use Rattle.settle.specs.Settle.{shown, settled}
 use Rattle.settle.proofs.SameLaws.{fed-below}
 use Rattle.rowwise.specs.Ready.{WorkReady, Stepped}
-use Rattle.rowwise.specs.Sums.{fedAt, pushed, stepBy, step}
+use Rattle.rowwise.specs.Sums.{pushed, stepBy, settledAt, step}
 use Rattle.rowwise.specs.WorkOut.{Worked, onSettled, workOut}
 use Rattle.rowwise.proofs.EndLaws.{never-passed}
 use Rattle.rowwise.proofs.WorkingLaws.{work-ready, work-settles, settled-to, work-next}
@@ -47,7 +47,7 @@ module _ (l : List ℕ) (i : ℕ) (c s : List ℕ) (r : ClimbReady l i c s) wher
   pub climb-works : WorkReady l i c s
   climb-works = work-ready l (off l i) (onPath l i) c s (r .working) i (r .is-row) feeder-on (on-self l (r .working .feeds) i (r .is-row))
 
-  settles : settledBy (rowAt l i) (fedAt s i) ≡ settled (viewOf l) (cardRowAt c) i
+  settles : settledAt l i s ≡ settled (viewOf l) (cardRowAt c) i
   settles =
       let b = r .working .feeds in
       work-settles l (off l i) (onPath l i) c s (r .working) i (r .is-row) (on-self l b i (r .is-row))
@@ -65,7 +65,7 @@ module _ (l : List ℕ) (i : ℕ) (c s : List ℕ) (r : ClimbReady l i c s) wher
       (λ e. rw e (path-fed l (r .working .feeds) i (r .is-row) (eqb-false (field l i atFeeder) 0 e)))
       (passes-or-fails (eqb (field l i atFeeder) 0))
 
-  goes-on : workOut l (pathOf l i) c ≡ onSettled i (settledBy (rowAt l i) (fedAt s i)) (λ k. workOut l above (putCardRow c i k))
+  goes-on : workOut l (pathOf l i) c ≡ onSettled i (settledAt l i s) (λ k. workOut l above (putCardRow c i k))
   unfolding workOut
   goes-on = rw path-is (ap (λ (s : Settled). onSettled i s (λ k. workOut l above (putCardRow c i k))) (sym settles))
 
@@ -73,7 +73,7 @@ module _ (l : List ℕ) (i : ℕ) (c s : List ℕ) (r : ClimbReady l i c s) wher
   module _ (t : Tested) (c′ s′ : List ℕ) (z : Stepped (step l i c s) t c′ s′) where
     pub climb-refused : (a : Answer) → t ≡ Refused a → Reworked (workOut l (pathOf l i) c) c (Refused a) c′
     unfolding step stepBy onSettled testedOf cardOf
-    climb-refused a e = rw goes-on (by-cases (settledBy (rowAt l i) (fedAt s i)) z)
+    climb-refused a e = rw goes-on (by-cases (settledAt l i s) z)
       where
         by-cases :
             (o : Settled) → Stepped (stepBy l i c s o) t c′ s′ →
@@ -91,9 +91,9 @@ module _ (l : List ℕ) (i : ℕ) (c s : List ℕ) (r : ClimbReady l i c s) wher
 
     passes : t ≡ Passed → Passes
     unfolding step stepBy onSettled
-    passes e = by-cases (settledBy (rowAt l i) (fedAt s i)) refl z
+    passes e = by-cases (settledAt l i s) refl z
       where
-        by-cases : (o : Settled) → settledBy (rowAt l i) (fedAt s i) ≡ o → Stepped (stepBy l i c s o) t c′ s′ → Passes
+        by-cases : (o : Settled) → settledAt l i s ≡ o → Stepped (stepBy l i c s o) t c′ s′ → Passes
         by-cases (Set o) q z =
             record {
               settings = shown o;

@@ -135,7 +135,7 @@ fn climb(list: &[u64], i: usize, card: &mut [u64], sums: &mut [u64]) -> Tested
     Tested::Passed
 }
 
-// 6 and 7 along the path of row i.
+// 11, 12 or 13 before 7 along the path of row i.
 pub fn work_path(list: &[u64], i: usize, card: &mut [u64]) -> Tested
     requires { ⌜ PathReady (now list) i (now card) ⌝ }
     ensures { λ t. ⌜ Reworked (workOut (now (list .entry)) (pathOf (now (list .entry)) i) (now (card .entry))) (now (card .entry)) t (now (card .exit)) ⌝ }

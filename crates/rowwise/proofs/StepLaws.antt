@@ -13,6 +13,7 @@ use Rattle.layout.specs.declared.CardRow.{CardRow}
 use Rattle.layout.specs.declared.Row.{Row}
 use Rattle.layout.specs.Card.{putCardRow}
 use Rattle.layout.specs.List.{rowAt}
+use Rattle.layout.specs.View.{viewOf}
 use Rattle.settle.specs.declared.Fed.{Fed}
 use Rattle.settle.specs.declared.Outcome.{Outcome}
 use Rattle.settle.specs.declared.Settled.{Settled}
@@ -44,16 +45,16 @@ module _ (l : List ℕ) (r : Row) (k : CardRow) (s : List ℕ) where
       by-cases false = putFed-length s (r .feeder - 1) _
 
 module _ (l : List ℕ) (i : ℕ) (c s : List ℕ) (r : Row) (f : Fed) (er : r ≡ rowAt l i) (ef : f ≡ fedAt s i) where
-  settles : (o : Settled) → o ≡ settledBy r f → step l i c s ≡ stepBy l i c s o
+  settles : (o : Settled) → o ≡ settledBy (viewOf l) i r f → step l i c s ≡ stepBy l i c s o
   unfolding step
-  settles o e = ap (stepBy l i c s) (sym (e ∙ ap₂ settledBy er ef))
+  settles o e = ap (stepBy l i c s) (sym (e ∙ ap₂ (settledBy (viewOf l) i) er ef))
 
-  pub step-unsettled : (why : Reason) → Unset why ≡ settledBy r f → Stepped (step l i c s) (Refused (Unsettled (i + 1) why)) c s
+  pub step-unsettled : (why : Reason) → Unset why ≡ settledBy (viewOf l) i r f → Stepped (step l i c s) (Refused (Unsettled (i + 1) why)) c s
   unfolding stepBy
   step-unsettled why e = rw (settles (Unset why) e) (record { answer = refl; card = refl; sums = refl })
 
   pub step-set :
-      (o : Outcome) (k : CardRow) (c′ s′ : List ℕ) → Set o ≡ settledBy r f → k ≡ shown o → c′ ≡ putCardRow c i k → s′ ≡
+      (o : Outcome) (k : CardRow) (c′ s′ : List ℕ) → Set o ≡ settledBy (viewOf l) i r f → k ≡ shown o → c′ ≡ putCardRow c i k → s′ ≡
       pushed l r k s →
       Stepped (step l i c s) Passed c′ s′
   unfolding stepBy

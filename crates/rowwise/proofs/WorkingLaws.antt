@@ -29,7 +29,7 @@ use Rattle.settle.proofs.MarginLaws.{marginBetween-to}
 use Rattle.settle.proofs.OutcomeLaws.{set-bounded}
 use Rattle.settle.proofs.PickupLaws.{current-volts, load-bounded}
 use Rattle.rowwise.specs.Ready.{HasFeeder, WorkReady}
-use Rattle.rowwise.specs.Sums.{fedAt, putFed, joined, pushed}
+use Rattle.rowwise.specs.Sums.{fedAt, putFed, joined, pushed, settledAt}
 use Rattle.rowwise.specs.Working.{Working, gatheredBy}
 use Rattle.rowwise.proofs.StepLaws.{pushed-source, pushed-feeder, pushed-length}
 use Rattle.rowwise.proofs.SumsLaws.{same-fed, putFed-own, putFed-other}
@@ -99,10 +99,10 @@ module _ (l : List ℕ) (done matters : ℕ → Bool) (c s : List ℕ) (w : Work
     pub work-ready : matters i ≡ true → WorkReady l i c s
     work-ready m =
         record {
-          in-list = omega arith;
+          is-row = h;
           in-card = omega (arith, w .card-room);
           in-sums = omega (arith, w .sums-room);
-          bounded = w .in-range i h .bounded;
+          all-bounded = λ j b. w .in-range j b .bounded;
           fed-bounded = sums-bounded i h m;
           feeder = has-feeder;
         }
@@ -110,9 +110,9 @@ module _ (l : List ℕ) (done matters : ℕ → Bool) (c s : List ℕ) (w : Work
   -- where all rows that row i feeds are done, the sums settle it as section 3 does
   pub work-settles :
       (i : ℕ) → i < rows l → matters i ≡ true → ((j : ℕ) → j < rows l → fed (viewOf l) i j ≡ true → done j ≡ true) →
-      settledBy (rowAt l i) (fedAt s i) ≡ settled (viewOf l) (cardRowAt c) i
+      settledAt l i s ≡ settled (viewOf l) (cardRowAt c) i
   work-settles i h m all =
-      ap (settledBy (rowAt l i))
+      ap (settledBy (viewOf l) i (rowAt l i))
       (w .summed i h m ∙
       same-fed
       (sumTo-same _ _ (rows l) (λ j b. counted-all (done j) (fed (viewOf l) i j) (loadOf (viewOf l) j) (all j b)))
@@ -121,8 +121,8 @@ module _ (l : List ℕ) (done matters : ℕ → Bool) (c s : List ℕ) (w : Work
       (maxTo-same _ _ (rows l) (λ j b. counted-all (done j) (fed (viewOf l) i j) (earliest (rowAt l i .device) (rowAt l j) (cardRowAt c j)) (all j b)))) ∙
       settled-by (viewOf l) (λ j b. w .in-range j b .bounded) (cardRowAt c) i h
 
-  pub settled-to : (i : ℕ) → i < rows l → (o : Outcome) → Set o ≡ settledBy (rowAt l i) (fedAt s i) → CardBounded (shown o)
-  settled-to i h o set = set-bounded _ _ o (w .in-range i h .bounded) set
+  pub settled-to : (i : ℕ) → i < rows l → (o : Outcome) → Set o ≡ settledAt l i s → CardBounded (shown o)
+  settled-to i h o set = set-bounded _ _ _ _ o (w .in-range i h .bounded) set
 
   -- row i is written into the card as k, and done from then on; what mattered no longer may
   module _ (i : ℕ) (h : i < rows l) (new : done i ≡ false) (done′ : ℕ → Bool) (next : (j : ℕ) → done′ j ≡ (done j || eqb j i))

@@ -1,14 +1,15 @@
 -- What one row's working out asks of its callers, and its promise. Definitions only.
 use mathlib.Core.Path.{_≡_}
 use mathlib.Core.List.{List}
-use Prim.Native.Nat.{ℕ, _+_, _-_, _*_, _≤_}
+use Prim.Native.Nat.{ℕ, _+_, _-_, _*_, _≤_, _<_}
 use lib.ListN.{length}
 use Rattle.answers.specs.declared.Tested.{Tested}
 use Rattle.layout.specs.declared.CardRow.{CardRow}
 use Rattle.layout.specs.declared.Row.{Row}
 use Rattle.layout.specs.Counts.{fieldCount, columnCount}
-use Rattle.layout.specs.List.{rowAt}
-use Rattle.layout.specs.Range.{Bounded}
+use Rattle.layout.specs.List.{rows, rowAt}
+use Rattle.layout.specs.Range.{Bounded, AllBounded}
+use Rattle.layout.specs.View.{viewOf}
 use Rattle.settle.specs.Fed.{FedBounded, CardBounded}
 use Rattle.rowwise.specs.Sums.{askCount, fedAt, Step}
 
@@ -26,10 +27,10 @@ pub record PushReady (l : List ℕ) (r : Row) (k : CardRow) (s : List ℕ) : Typ
 
 -- row i can be worked out
 pub record WorkReady (l : List ℕ) (i : ℕ) (c s : List ℕ) : Type 0 where
-  pub in-list : i * fieldCount + fieldCount ≤ length l
+  pub is-row : i < rows l
   pub in-card : i * columnCount + columnCount ≤ length c
   pub in-sums : i * askCount + askCount ≤ length s
-  pub bounded : Bounded (rowAt l i)
+  pub all-bounded : AllBounded (viewOf l)
   pub fed-bounded : FedBounded (fedAt s i)
   pub feeder : HasFeeder l (rowAt l i) s
 

@@ -12,6 +12,7 @@ use Rattle.layout.specs.declared.CardRow.{CardRow}
 use Rattle.layout.specs.declared.Row.{Row}
 use Rattle.layout.specs.Card.{putCardRow}
 use Rattle.layout.specs.List.{rowAt}
+use Rattle.layout.specs.View.{viewOf}
 use Rattle.settle.specs.declared.Fed.{Fed}
 use Rattle.settle.specs.declared.Settled.{Settled}
 use Rattle.settle.specs.declared.Settled.the-variants.{Set, Unset}
@@ -65,5 +66,9 @@ unfoldable pub stepBy : List ℕ → ℕ → List ℕ → List ℕ → Settled �
 stepBy l i c s (Set o) = record { tested = Passed; card = putCardRow c i (shown o); sums = pushed l (rowAt l i) (shown o) s }
 stepBy l i c s (Unset why) = record { tested = Refused (Unsettled (i + 1) why); card = c; sums = s }
 
+-- row i settled by its four numbers
+abbrev pub settledAt : List ℕ → ℕ → List ℕ → Settled
+settledAt l i s = settledBy (viewOf l) i (rowAt l i) (fedAt s i)
+
 unfoldable pub step : List ℕ → ℕ → List ℕ → List ℕ → Step
-step l i c s = stepBy l i c s (settledBy (rowAt l i) (fedAt s i))
+step l i c s = stepBy l i c s (settledAt l i s)

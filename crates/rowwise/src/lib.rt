@@ -80,7 +80,7 @@ pub fn work_row(list: &[u64], i: usize, card: &mut [u64], sums: &mut [u64]) -> T
     ensures { λ t. ⌜ Stepped (step (now (list .entry)) i (now (card .entry)) (now (sums .entry))) t (now (card .exit)) (now (sums .exit)) ⌝ }
 {
     let r = row_at(list, i);
-    match settle(r, fed_at(sums, i)) {
+    match settle(list, i, r, fed_at(sums, i)) {
         Settled::Unset(why) => Tested::Refused(Answer::Unsettled((i as u64) + 1, why)),
         Settled::Set(o) => {
             let k = card_row(o);

@@ -8,24 +8,17 @@ use native.Mathlib.Omega.{arith}
 use lib.Dec.{leb, eqb}
 use borrow.Author.Tests.{le-leb, leb-true, eq-eqb, ne-eqb, eqb-true}
 use Rattle.fold.specs.Fold.{maxTo}
-use Rattle.fold.proofs.BoolLaws.{passes-or-fails, implies, implied, same-test}
-use Rattle.fold.proofs.FoldLaws.{Attained, maxTo-attained, le-maxTo, sumTo-zero, sumTo-others, every-at, every-of}
+use Rattle.fold.proofs.BoolLaws.{passes-or-fails, implied, same-test}
+use Rattle.fold.proofs.FoldLaws.{Attained, maxTo-attained, le-maxTo, sumTo-zero, sumTo-others}
 use Rattle.grid.proofs.GridLaws.{leastOn-same}
 use Rattle.layout.specs.View.{View, Settings}
 use Rattle.layout.specs.Range.{AllBounded}
 use Rattle.settle.specs.Conditions.{fed, eachFed, loadOf, othersLoad, returnsAfterSelfStart, clearOf, seesOwnZone, backsUp, withinDelays, gradedAbove}
-use Rattle.settle.specs.Fed.{reach, excess, shortfall, earliest, gathered, clearOfAll, backsUpAll, pickupBy, delayBy, settledBy}
-use Rattle.settle.specs.Settle.{meetsPickup, meetsDelay, outcomeOf, settled}
-use Rattle.settle.proofs.ConditionTheorems.{P2-exactly, P4-exactly}
+use Rattle.settle.specs.Fed.{reach, excess, shortfall, earliest, gathered, clearOfAll, backsUpAll, unbackedBy, aboveLoadBy, pickedBy, delayBy, settledBy}
+use Rattle.settle.specs.Settle.{aboveLoad, firstUnbacked, leastPickup, leastAboveLoad, picked, meetsDelay, leastDelay, outcomeOf, settled}
+use Rattle.settle.proofs.ConditionTheorems.{P2-exactly, P4-exactly, fed-exactly}
+use Rattle.settle.proofs.MeetsTheorems.{each-fed-at, each-fed-of, backed-all-exactly}
 use Rattle.settle.proofs.PickupLaws.{current-volts, load-bounded}
-
--- what holds for each fed row
-module _ (v : View) (i : ℕ) (ok : ℕ → Bool) where
-  pub each-fed-at : eachFed v i ok ≡ true → (j : ℕ) → j < v .count → fed v i j ≡ true → ok j ≡ true
-  each-fed-at e j h g = implies (fed v i j) (ok j) (every-at (λ j. not (fed v i j) || ok j) (v .count) j e h) g
-
-  pub each-fed-of : ((j : ℕ) → j < v .count → fed v i j ≡ true → ok j ≡ true) → eachFed v i ok ≡ true
-  each-fed-of h = every-of (λ j. not (fed v i j) || ok j) (v .count) (λ j b. implied (fed v i j) (ok j) (h j b))
 
 -- a number that counts only for fed rows
 counted-fed : {b : Bool} (x : ℕ) → b ≡ true → cond b x 0 ≡ x
@@ -103,7 +96,7 @@ module _ (v : View) (a : AllBounded v) (k : Settings) (i : ℕ) (h : i < v .coun
   pub clear-of-all : (I : ℕ) → clearOfAll (v .row i) (gathered v k i) I ≡ eachFed v i (λ j. clearOf v k i j I)
   clear-of-all I = same-test _ _ (clear-each I) (λ t. unfold clearOfAll in le-leb _ _ (clear-greatest I t))
 
-  -- P4 for every fed row that is backed, and for the greatest shortfall
+  -- P4 for every fed row that is backed, where it holds for the greatest shortfall
   far-to : (j : ℕ) → j < v .count → v .row j .far * v .row j .volts ≤ 50000000000000
   far-to j b = let q = a j b in current-volts (q .far-to) (q .volts-to)
 
@@ -120,28 +113,20 @@ module _ (v : View) (a : AllBounded v) (k : Settings) (i : ℕ) (h : i < v .coun
       le-leb (12 * I * v .row i .volts) (10 * v .row j .far * v .row j .volts)
       (omega (arith, mul-assoc 10 (v .row j .far) (v .row j .volts), far-to j b, counted-fed (shortfall (v .row j)) g))))
 
-  backs-greatest :
-      (I : ℕ) → I ≤ 100000000 → eachFed v i (λ j. backsUp (v .row i) (v .row j) I) ≡ true →
-      12 * I * v .row i .volts ≤ 10 * (reach - gathered v k i .shortfall)
-  backs-greatest I b t =
-      let most : 12 * I * v .row i .volts ≤ 600000000000000 = mul-le-mul (mul-le-mul-left 12 b) (a i h .volts-to) in
+  -- where it holds for the greatest shortfall, no fed row is left to look for
+  backs-found : (I : ℕ) → unbackedBy v i (v .row i) (gathered v k i) I ≡ firstUnbacked v i (v .row i) I
+  unfolding unbackedBy
+  backs-found I =
       ⊎-elim
-      (λ z. omega arith)
-      (λ m.
-      ⊎-elim
-      (λ (backed : eqb (v .row (m .at) .backed) 1 ≡ true).
-      let sees = each-fed-at v i (λ j. backsUp (v .row i) (v .row j) I) t (m .at) (m .below) (m .counts) in
-      let c = P4-exactly (v .row i) (v .row (m .at)) I .0 sees (eqb-true (v .row (m .at) .backed) 1 backed) in
-      let s : shortfall (v .row (m .at)) ≡ reach - v .row (m .at) .far * v .row (m .at) .volts = rw backed in
-      omega (arith, mul-assoc 10 (v .row (m .at) .far) (v .row (m .at) .volts), m .is, far-to (m .at) (m .below)))
-      (λ (backed : eqb (v .row (m .at) .backed) 1 ≡ false).
-      let s : shortfall (v .row (m .at)) ≡ 0 = rw backed in
-      omega (arith, m .is))
-      (passes-or-fails (eqb (v .row (m .at) .backed) 1)))
-      (greatest (fed v i) (λ j. shortfall (v .row j)) (v .count))
-
-  pub backs-all : (I : ℕ) → I ≤ 100000000 → backsUpAll (v .row i) (gathered v k i) I ≡ eachFed v i (λ j. backsUp (v .row i) (v .row j) I)
-  backs-all I b = same-test _ _ (backs-each I) (λ t. unfold backsUpAll in le-leb _ _ (backs-greatest I b t))
+      (λ (t : backsUpAll (v .row i) (gathered v k i) I ≡ true).
+      rw t
+      (sym
+      (backed-all-exactly v i I .1
+      (λ j b f.
+      P4-exactly (v .row i) (v .row j) I .0
+      (each-fed-at v i (λ j. backsUp (v .row i) (v .row j) I) (backs-each I t) j b (fed-exactly v i j .1 f))))))
+      (λ (t : backsUpAll (v .row i) (gathered v k i) I ≡ false). rw t)
+      (passes-or-fails (backsUpAll (v .row i) (gathered v k i) I))
 
   -- the earliest delay of row i for row j; D2 for every fed row, and for the greatest of these
   abbrev earliest-for : ℕ → ℕ
@@ -172,15 +157,12 @@ module _ (v : View) (a : AllBounded v) (k : Settings) (i : ℕ) (h : i < v .coun
       (greatest (fed v i) earliest-for (v .count))))
 
   -- a row settled by the four numbers is settled by section 3
-  pub settled-by : settledBy (v .row i) (gathered v k i) ≡ settled v k i
-  unfolding settledBy settled pickupBy meetsPickup delayBy meetsDelay
+  pub settled-by : settledBy v i (v .row i) (gathered v k i) ≡ settled v k i
+  unfolding settledBy pickedBy aboveLoadBy settled leastAboveLoad aboveLoad delayBy meetsDelay
   settled-by =
-      let r = a i h in
-      ap₂ (outcomeOf (v .row i))
-      (leastOn-same _ _ _ (r .step-from) (pickupBy (v .row i) (gathered v k i)) (meetsPickup v k i)
-      (λ I g.
-      ap₂ _&&_
-      (ap (λ (b : Bool). returnsAfterSelfStart (v .row i) I && b) (clear-of-all I))
-      (ap (λ (b : Bool). seesOwnZone (v .row i) I && b) (backs-all I (le-trans (g .within) (r .high-to))))))
-      (leastOn-same _ _ 1 (omega arith) (delayBy (v .row i) (gathered v k i)) (meetsDelay v k i)
-      (λ t g. ap (λ (b : Bool). withinDelays (v .row i) t && b) (graded-all t)))
+      λ t.
+      outcomeOf (v .row i)
+      (picked (v .row i)
+      (leastPickup (v .row i) (λ I. returnsAfterSelfStart (v .row i) I && clear-of-all I t))
+      (λ I. backs-found I t))
+      (leastDelay (v .row i) (λ d. withinDelays (v .row i) d && graded-all d t))

@@ -1,4 +1,5 @@
 pub mod Cases
+pub mod CauseTheorems
 pub mod ConditionTheorems
 pub mod CutoffTheorems
 pub mod FedLaws

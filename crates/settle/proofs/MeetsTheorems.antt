@@ -1,16 +1,28 @@
--- All conditions of a pickup, and all of a delay, together: the tests that the contracts cite pass exactly where section 3's
--- inequalities hold, those of fed rows for each row that is fed. Read with specs/Inequalities.antt.
+-- The conditions of a pickup's load, those of a delay, and P4 of all fed rows: the tests that the contracts cite pass exactly where
+-- section 3's inequalities hold, those of fed rows for each row that is fed. Read with specs/Inequalities.antt.
 use mathlib.Core.Path.{_≡_}
-use mathlib.Core.Bool.{Bool, true, _&&_}
-use mathlib.Core.Logic.{_↔_}
+use mathlib.Core.Bool.{Bool, true, false, not, _||_}
+use mathlib.Core.Logic.{_↔_, ⊎-elim}
 use Prim.Native.Nat.{ℕ, _<_}
-use Rattle.fold.proofs.BoolLaws.{and-left, and-right, and-both}
+use native.Mathlib.Omega.{arith}
+use borrow.Author.Tests.{not-true}
+use Rattle.fold.specs.declared.Found.the-variants.{At, Nothing}
+use Rattle.fold.proofs.BoolLaws.{and-left, and-right, and-both, fails, not-both, passes-or-fails, implies, implied}
+use Rattle.fold.proofs.FirstLaws.{first-at, first-is, first-none, first-nothing}
+use Rattle.fold.proofs.FoldLaws.{every-at, every-of}
 use Rattle.layout.specs.View.{View, Settings}
-use Rattle.settle.specs.Conditions.{eachFed, returnsAfterSelfStart, clearOf, seesOwnZone, backsUp, withinDelays, gradedAbove}
-use Rattle.settle.specs.Inequalities.{Feeding, PickupMet, DelayMet}
-use Rattle.settle.specs.Settle.{meetsPickup, meetsDelay}
-use Rattle.settle.proofs.ConditionTheorems.{P1-exactly, P2-exactly, P3-exactly, P4-exactly, D1-exactly, D2-exactly, fed-exactly}
-use Rattle.settle.proofs.FedLaws.{each-fed-at, each-fed-of}
+use Rattle.settle.specs.Conditions.{fed, eachFed, returnsAfterSelfStart, clearOf, backsUp, withinDelays, gradedAbove}
+use Rattle.settle.specs.Inequalities.{Feeding, AboveLoad, BacksUp, FirstUnbacked, DelayMet}
+use Rattle.settle.specs.Settle.{aboveLoad, unbacked, firstUnbacked, meetsDelay}
+use Rattle.settle.proofs.ConditionTheorems.{P1-exactly, P2-exactly, P4-exactly, D1-exactly, D2-exactly, fed-exactly}
+
+-- what holds for each fed row
+module _ (v : View) (i : ℕ) (ok : ℕ → Bool) where
+  pub each-fed-at : eachFed v i ok ≡ true → (j : ℕ) → j < v .count → fed v i j ≡ true → ok j ≡ true
+  each-fed-at e j h g = implies (fed v i j) (ok j) (every-at (λ j. not (fed v i j) || ok j) (v .count) j e h) g
+
+  pub each-fed-of : ((j : ℕ) → j < v .count → fed v i j ≡ true → ok j ≡ true) → eachFed v i ok ≡ true
+  each-fed-of h = every-of (λ j. not (fed v i j) || ok j) (v .count) (λ j b. implied (fed v i j) (ok j) (h j b))
 
 -- a test asked for each fed row
 each-fed : (v : View) (i : ℕ) (ok : ℕ → Bool) → (eachFed v i ok ≡ true) ↔ ((j : ℕ) → j < v .count → Feeding v i j → ok j ≡ true)
@@ -20,36 +32,20 @@ each-fed v i ok = (
 )
 
 module _ (v : View) (k : Settings) (i : ℕ) where
-  lower : ℕ → Bool
-  lower I = returnsAfterSelfStart (v .row i) I && eachFed v i (λ j. clearOf v k i j I)
-
-  upper : ℕ → Bool
-  upper I = seesOwnZone (v .row i) I && eachFed v i (λ j. backsUp (v .row i) (v .row j) I)
-
-  pub pickup-exactly : (I : ℕ) → (meetsPickup v k i I ≡ true) ↔ PickupMet v k i I
-  unfolding meetsPickup lower upper
-  pickup-exactly I = (
+  pub load-exactly : (I : ℕ) → (aboveLoad v k i I ≡ true) ↔ AboveLoad v k i I
+  unfolding aboveLoad
+  load-exactly I = (
     λ t.
-        let lo = and-left (lower I) (upper I) t in
-        let up = and-right (lower I) (upper I) t in
         record {
-          P1 = P1-exactly (v .row i) I .0 (and-left (returnsAfterSelfStart (v .row i) I) _ lo);
+          P1 = P1-exactly (v .row i) I .0 (and-left (returnsAfterSelfStart (v .row i) I) _ t);
           P2 =
               λ j b f.
               P2-exactly v k i j I .0
-              (each-fed v i (λ j. clearOf v k i j I) .0 (and-right (returnsAfterSelfStart (v .row i) I) _ lo) j b f);
-          P3 = P3-exactly (v .row i) I .0 (and-left (seesOwnZone (v .row i) I) _ up);
-          P4 =
-              λ j b f.
-              P4-exactly (v .row i) (v .row j) I .0
-              (each-fed v i (λ j. backsUp (v .row i) (v .row j) I) .0 (and-right (seesOwnZone (v .row i) I) _ up) j b f);
+              (each-fed v i (λ j. clearOf v k i j I) .0 (and-right (returnsAfterSelfStart (v .row i) I) _ t) j b f);
         },
     λ h.
-        and-both
-        (and-both (P1-exactly (v .row i) I .1 (h .P1))
-        (each-fed v i (λ j. clearOf v k i j I) .1 (λ j b f. P2-exactly v k i j I .1 (h .P2 j b f))))
-        (and-both (P3-exactly (v .row i) I .1 (h .P3))
-        (each-fed v i (λ j. backsUp (v .row i) (v .row j) I) .1 (λ j b f. P4-exactly (v .row i) (v .row j) I .1 (h .P4 j b f)))),
+        and-both (P1-exactly (v .row i) I .1 (h .P1))
+        (each-fed v i (λ j. clearOf v k i j I) .1 (λ j b f. P2-exactly v k i j I .1 (h .P2 j b f))),
   )
 
   pub delay-exactly : (t : ℕ) → (meetsDelay v k i t ≡ true) ↔ DelayMet v k i t
@@ -67,4 +63,47 @@ module _ (v : View) (k : Settings) (i : ℕ) where
     λ h.
         and-both (D1-exactly (v .row i) t .1 (h .D1))
         (each-fed v i (λ j. gradedAbove (v .row i) (v .row j) (k j) t) .1 (λ j b f. D2-exactly (v .row i) (v .row j) (k j) t .1 (h .D2 j b f))),
+  )
+
+-- P4 for the fed rows ascending, of pickup I
+module _ (v : View) (i I : ℕ) where
+  backed-exactly : (j : ℕ) → (unbacked v i (v .row i) I j ≡ false) ↔ (Feeding v i j → BacksUp v i j I)
+  unfolding unbacked
+  backed-exactly j = (
+    λ t f.
+        ⊎-elim (P4-exactly (v .row i) (v .row j) I .0)
+        (λ (e : backsUp (v .row i) (v .row j) I ≡ false). absurd (not-both (and-both (fed-exactly v i j .1 f) (rw e)) t))
+        (passes-or-fails (backsUp (v .row i) (v .row j) I)),
+    λ h.
+        fails (unbacked v i (v .row i) I j)
+        (λ t.
+        let e = P4-exactly (v .row i) (v .row j) I .1 (h (fed-exactly v i j .0 (and-left (fed v i j) _ t))) in
+        not-both e (not-true (backsUp (v .row i) (v .row j) I) (and-right (fed v i j) _ t))),
+  )
+
+  -- row j is the first that fails
+  pub unbacked-exactly : (j : ℕ) → (firstUnbacked v i (v .row i) I ≡ At j) ↔ FirstUnbacked v i I j
+  unfolding firstUnbacked unbacked
+  unbacked-exactly j = (
+    λ e.
+        let f = first-at (unbacked v i (v .row i) I) (v .count) 0 j e in
+        record {
+          is-row = omega (arith, f .below);
+          feeding = fed-exactly v i j .0 (and-left (fed v i j) _ (f .passes));
+          fails = λ b. not-both (f .passes) (backed-exactly j .1 (λ _. b));
+          earlier = λ x g. backed-exactly x .0 (f .before x (omega arith) g);
+        },
+    λ u.
+        first-is (unbacked v i (v .row i) I) (v .count) 0 j (omega arith) (omega (arith, u .is-row))
+        (⊎-elim (λ t. t) (λ n. absurd (u .fails (backed-exactly j .0 n (u .feeding)))) (passes-or-fails (unbacked v i (v .row i) I j)))
+        (λ x _ g. backed-exactly x .1 (u .earlier x g)),
+  )
+
+  -- none fails
+  pub backed-all-exactly :
+      (firstUnbacked v i (v .row i) I ≡ Nothing) ↔ ((j : ℕ) → j < v .count → Feeding v i j → BacksUp v i j I)
+  unfolding firstUnbacked
+  backed-all-exactly = (
+    λ e j b. backed-exactly j .0 (first-nothing (unbacked v i (v .row i) I) (v .count) 0 e j (omega arith) (omega arith)),
+    λ h. first-none (unbacked v i (v .row i) I) (v .count) 0 (λ j _ b. backed-exactly j .1 (h j (omega arith))),
   )

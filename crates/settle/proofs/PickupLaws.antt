@@ -1,22 +1,21 @@
 -- A pickup and a delay judged by the four numbers: lower bounds rounded up, upper tests, and the least value between.
 use mathlib.Core.Path.{_≡_, sym, ap, ap₂, _∙_}
 use mathlib.Core.Bool.{Bool, true, false, not, cond, _&&_, _||_}
-use Prim.Native.Nat.{ℕ, _+_, _-_, _*_, _≤_, _<_, max}
-use native.Mathlib.Nat.{mul-le-mul, mul-le-mul-left, mul-le-mul-right, mul-assoc, mul-left-comm, le-trans}
+use Prim.Native.Nat.{ℕ, _+_, _-_, _*_, _≤_, max}
+use native.Mathlib.Nat.{mul-le-mul, mul-assoc, mul-left-comm, le-trans}
 use native.Mathlib.Omega.{arith}
 use lib.Dec.{leb, eqb}
-use borrow.Author.Tests.{le-leb, lt-leb, leb-true}
+use borrow.Author.Tests.{le-leb}
 use Rattle.fold.specs.declared.Found.{Found}
-use Rattle.fold.specs.declared.Found.the-variants.{At, Nothing}
+use Rattle.fold.specs.declared.Found.the-variants.{At}
 use Rattle.grid.specs.Round.{ceilDiv}
-use Rattle.fold.proofs.BoolLaws.{and-left, and-right, and-both}
-use Rattle.grid.proofs.GridLaws.{capped, leastOn-capped, leastOn-same, leastOn-least}
+use Rattle.grid.proofs.GridLaws.{leastOn-same, leastOn-least}
 use Rattle.grid.proofs.RoundLaws.{ceilDiv-leb, max-leb}
 use Rattle.layout.specs.declared.Row.{Row}
 use Rattle.layout.specs.Range.{Bounded}
 use Rattle.settle.specs.declared.Fed.{Fed}
-use Rattle.settle.specs.Conditions.{returnsAfterSelfStart, seesOwnZone, withinDelays}
-use Rattle.settle.specs.Fed.{reach, clearOfAll, backsUpAll, pickupBy, delayBy}
+use Rattle.settle.specs.Conditions.{returnsAfterSelfStart, withinDelays}
+use Rattle.settle.specs.Fed.{reach, clearOfAll, aboveLoadBy, delayBy}
 use Rattle.settle.specs.Settle.{leastPickup, leastDelay}
 
 -- a current times volts
@@ -36,8 +35,8 @@ module _ (r : Row) (f : Fed) (a : Bounded r) where
   pub pickup-bound :
       (b₁ b₂ : ℕ) → b₁ ≡ ceilDiv (11 * r .selfstart * r .work) (10 * r .returnfactor) →
       b₂ ≡ ceilDiv (11 * (f .excess + f .load - reach)) (10 * r .volts) →
-      (x : ℕ) → leb (max b₁ b₂) x ≡ (returnsAfterSelfStart r x && clearOfAll r f x)
-  unfolding returnsAfterSelfStart clearOfAll
+      (x : ℕ) → leb (max b₁ b₂) x ≡ aboveLoadBy r f x
+  unfolding aboveLoadBy returnsAfterSelfStart clearOfAll
   pickup-bound b₁ b₂ e₁ e₂ x =
       max-leb b₁ b₂ x ∙
       ap₂ _&&_
@@ -45,48 +44,6 @@ module _ (r : Row) (f : Fed) (a : Bounded r) where
       (regroup x (r .returnfactor)))
       (ap (λ (b : ℕ). leb b x) e₂ ∙ ceilDiv-leb _ _ x (omega (arith, a .volts-from)) ∙ ap (leb (11 * (f .excess + f .load - reach)))
       (regroup x (r .volts)))
-
-  -- P3 and P4
-  abbrev pub upper : ℕ → Bool
-  upper x = seesOwnZone r x && backsUpAll r f x
-
-  pub upper-fails : (x : ℕ) → 10 * r .far < 15 * x → false ≡ upper x
-  unfolding seesOwnZone
-  upper-fails x h = ap (λ (zone : Bool). zone && backsUpAll r f x) (sym (lt-leb (15 * x) (10 * r .far) h))
-
-  pub upper-is : (x : ℕ) → 15 * x ≤ 10 * r .far → leb (12 * x * r .volts) (10 * (reach - f .shortfall)) ≡ upper x
-  unfolding seesOwnZone backsUpAll
-  upper-is x h = ap (λ (zone : Bool). zone && backsUpAll r f x) (sym (le-leb (15 * x) (10 * r .far) h))
-
-  -- a lower pickup sees what a higher one sees
-  upper-down : (x y : ℕ) → x ≤ y → upper y ≡ true → upper x ≡ true
-  unfolding seesOwnZone backsUpAll
-  upper-down x y l t =
-      let zone = leb-true (15 * y) (10 * r .far) (and-left (leb (15 * y) (10 * r .far)) (leb (12 * y * r .volts) (10 * (reach - f .shortfall))) t) in
-      let back = leb-true (12 * y * r .volts) (10 * (reach - f .shortfall))
-      (and-right (leb (15 * y) (10 * r .far)) (leb (12 * y * r .volts) (10 * (reach - f .shortfall))) t) in
-      and-both (le-leb (15 * x) (10 * r .far) (omega arith))
-      (le-leb (12 * x * r .volts) (10 * (reach - f .shortfall)) (le-trans (mul-le-mul-right (r .volts) (mul-le-mul-left 12 l)) back))
-
-  -- the least available pickup from the bound on, kept where P3 and P4 hold
-  pub pickup-found :
-      (b : ℕ) → ((x : ℕ) → leb b x ≡ (returnsAfterSelfStart r x && clearOfAll r f x)) →
-      leastPickup r (pickupBy r f) ≡ capped upper (leastPickup r (leb b))
-  unfolding pickupBy
-  pickup-found b bound =
-      leastOn-capped (r .low) (r .high) (r .step) (a .step-from) (pickupBy r f) upper b
-      (λ x _. ap (λ (t : Bool). t && upper x) (sym (bound x))) upper-down
-
-  -- the three ways in which the search ends, x the least value from the bound on
-  module _ (b : ℕ) (bound : (x : ℕ) → leb b x ≡ (returnsAfterSelfStart r x && clearOfAll r f x)) where
-    pub pickup-kept : (x : ℕ) → leastPickup r (leb b) ≡ At x → upper x ≡ true → At x ≡ leastPickup r (pickupBy r f)
-    pickup-kept x e u = sym (pickup-found b bound ∙ ap (capped upper) e ∙ rw u)
-
-    pub pickup-dropped : (x : ℕ) → leastPickup r (leb b) ≡ At x → upper x ≡ false → Nothing ≡ leastPickup r (pickupBy r f)
-    pickup-dropped x e u = sym (pickup-found b bound ∙ ap (capped upper) e ∙ rw u)
-
-    pub pickup-none : leastPickup r (leb b) ≡ Nothing → Nothing ≡ leastPickup r (pickupBy r f)
-    pickup-none e = sym (pickup-found b bound ∙ ap (capped upper) e)
 
 -- an available pickup is at most 100,000,000
 pub found-bounded : (r : Row) → Bounded r → (ok : ℕ → Bool) (x : ℕ) → leastPickup r ok ≡ At x → x ≤ 100000000

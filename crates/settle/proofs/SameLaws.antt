@@ -8,8 +8,10 @@ use Prim.Native.Nat.{ℕ, _+_, _*_, _<_}
 use native.Mathlib.Omega.{arith}
 use lib.Dec.{leb, eqb}
 use borrow.Author.Tests.{eqb-true, eqb-false}
+use Rattle.fold.specs.First.{first}
 use Rattle.fold.specs.Fold.{sumTo, every}
 use Rattle.fold.proofs.BoolLaws.{passes-or-fails, and-left}
+use Rattle.fold.proofs.FirstLaws.{first-same}
 use Rattle.fold.proofs.FoldLaws.{sumTo-same, every-same}
 use Rattle.layout.specs.declared.Row.{Row}
 use Rattle.layout.specs.Fields.{atFeeder}
@@ -17,8 +19,8 @@ use Rattle.layout.specs.List.{rows, field}
 use Rattle.layout.specs.View.{View, viewOf, Settings}
 use Rattle.rows.specs.InRange.{Feeds}
 use Rattle.rows.proofs.InRangeLaws.{feeder-above, feeder-of-last}
-use Rattle.settle.specs.Conditions.{fed, eachFed, loadOf, othersLoad, returnsAfterSelfStart, clearOf, seesOwnZone, backsUp, withinDelays, gradedAbove}
-use Rattle.settle.specs.Settle.{meetsPickup, meetsDelay, leastPickup, leastDelay, outcomeOf, settled}
+use Rattle.settle.specs.Conditions.{fed, eachFed, loadOf, othersLoad, returnsAfterSelfStart, clearOf, backsUp, withinDelays, gradedAbove}
+use Rattle.settle.specs.Settle.{aboveLoad, unbacked, firstUnbacked, leastPickup, leastAboveLoad, picked, meetsDelay, leastDelay, outcomeOf, settled}
 
 counted-same : (b b′ : Bool) (x x′ : ℕ) → b ≡ b′ → (b ≡ true → x ≡ x′) → cond b x 0 ≡ cond b′ x′ 0
 counted-same true b′ x x′ e h = ap (λ (b : Bool). cond b x 0) e ∙ rw (← e) (h refl)
@@ -27,6 +29,10 @@ counted-same false b′ x x′ e h = rw (← e)
 tested-same : (b b′ x x′ : Bool) → b ≡ b′ → (b ≡ true → x ≡ x′) → (not b || x) ≡ (not b′ || x′)
 tested-same true b′ x x′ e h = h refl ∙ ap (λ (b : Bool). not b || x′) e
 tested-same false b′ x x′ e h = ap (λ (b : Bool). not b || x′) e
+
+also-same : (b b′ x x′ : Bool) → b ≡ b′ → (b ≡ true → x ≡ x′) → (b && x) ≡ (b′ && x′)
+also-same true b′ x x′ e h = h refl ∙ ap (λ (b : Bool). b && x′) e
+also-same false b′ x x′ e h = ap (λ (b : Bool). b && x′) e
 
 -- row i of two views, with the same fields, feeding the same rows with the same fields and settings
 module _ (v v′ : View) (k k′ : Settings) (i : ℕ) (n : v .count ≡ v′ .count) (r : v .row i ≡ v′ .row i)
@@ -49,16 +55,24 @@ module _ (v v′ : View) (k k′ : Settings) (i : ℕ) (n : v .count ≡ v′ .c
       (λ t. ap (λ (f : Row). f .work * f .volts) (fields x b (and-left (fed v i x) _ t)))) ∙
       ap (λ (m : ℕ). sumTo m (λ x. cond (fed v′ i x && not (eqb x j)) (loadOf v′ x) 0)) n
 
-  pickup-same : (I : ℕ) → meetsPickup v k i I ≡ meetsPickup v′ k′ i I
-  unfolding meetsPickup clearOf
-  pickup-same I =
+  load-same : (I : ℕ) → aboveLoad v k i I ≡ aboveLoad v′ k′ i I
+  unfolding aboveLoad clearOf
+  load-same I =
       λ t.
-      (returnsAfterSelfStart (r t) I &&
+      returnsAfterSelfStart (r t) I &&
       each-same (λ j. clearOf v k i j I) (λ j. clearOf v′ k′ i j I)
       (λ j b g.
-      λ u. leb (11 * (settings j b g u .pickup * fields j b g u .volts + others-same j u)) (10 * I * r u .volts)) t) &&
-      (seesOwnZone (r t) I &&
-      each-same (λ j. backsUp (v .row i) (v .row j) I) (λ j. backsUp (v′ .row i) (v′ .row j) I) (λ j b g. λ u. backsUp (r u) (fields j b g u) I) t)
+      λ u. leb (11 * (settings j b g u .pickup * fields j b g u .volts + others-same j u)) (10 * I * r u .volts)) t
+
+  unbacked-same : (I : ℕ) → firstUnbacked v i (v .row i) I ≡ firstUnbacked v′ i (v′ .row i) I
+  unfolding firstUnbacked unbacked
+  unbacked-same I =
+      first-same (unbacked v i (v .row i) I) (unbacked v′ i (v′ .row i) I) (v .count) 0
+      (λ j b.
+      also-same (fed v i j) (fed v′ i j) (not (backsUp (v .row i) (v .row j) I)) (not (backsUp (v′ .row i) (v′ .row j) I))
+      (feeding j (omega arith))
+      (λ g. λ t. not (backsUp (r t) (fields j (omega arith) g t) I))) ∙
+      ap (first (unbacked v′ i (v′ .row i) I) 0) n
 
   delay-same : (d : ℕ) → meetsDelay v k i d ≡ meetsDelay v′ k′ i d
   unfolding meetsDelay
@@ -69,8 +83,11 @@ module _ (v v′ : View) (k k′ : Settings) (i : ℕ) (n : v .count ≡ v′ .c
       (λ j b g. λ u. gradedAbove (r u) (fields j b g u) (settings j b g u) d) t
 
   pub settled-same : settled v k i ≡ settled v′ k′ i
-  unfolding settled
-  settled-same = λ t. outcomeOf (r t) (leastPickup (r t) (λ I. pickup-same I t)) (leastDelay (r t) (λ d. delay-same d t))
+  unfolding settled leastAboveLoad
+  settled-same =
+      λ t.
+      outcomeOf (r t) (picked (r t) (leastPickup (r t) (λ I. load-same I t)) (λ I. unbacked-same I t))
+      (leastDelay (r t) (λ d. delay-same d t))
 
 pub fed-below : (l : List ℕ) → Feeds l → (i j : ℕ) → j < rows l → fed (viewOf l) i j ≡ true → j < i
 fed-below l b i j h g =

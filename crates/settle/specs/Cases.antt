@@ -1,11 +1,12 @@
--- [01 §3, §4], [02 §5] Worked cases of one row's conditions and of its settling, each worked out by hand from the section, on each
+-- [01 §3, §4], [02 §2, §5] Worked cases of one row's conditions and of its settling, each worked out by hand from the section, on each
 -- side of every bound. Rows are named by their numbers, from 1. Definitions only.
 use mathlib.Core.Bool.{Bool, true, false, not, _&&_}
 use mathlib.Core.List.{List, [], _∷_}
 use Prim.Native.Nat.{ℕ, zero, suc, _+_, _-_, _*_}
 use lib.Dec.{eqb}
 use lib.ListN.{set}
-use Rattle.answers.specs.Answer.{reasonNumber}
+use Rattle.answers.specs.declared.Answer.the-variants.{Unsettled}
+use Rattle.answers.specs.Answer.{givenBy}
 use Rattle.layout.specs.Card.{columnsOf}
 use Rattle.layout.specs.Counts.{fieldCount}
 use Rattle.layout.specs.Fields.{atKind, atFar, atNear, atLow, atHigh, atDevice, atFloor, atCeiling, atBacked}
@@ -108,10 +109,10 @@ conditions =
     ∷ holds (seesNear (row 3) 1525000) ∷ fails (seesNear (row 3) 1525001)
     ∷ []
 
--- a row settled: its card row, or the number of its refusal
-abbrev outcome : Settled → List ℕ
-outcome (Set o) = columnsOf (shown o)
-outcome (Unset why) = reasonNumber why ∷ []
+-- row n settled: its card row, or the numbers of its refusal
+abbrev outcome : ℕ → Settled → List ℕ
+outcome n (Set o) = columnsOf (shown o)
+outcome n (Unset why) = givenBy (Unsettled n why)
 
 -- two lists have the same numbers
 unfoldable pub same : List ℕ → List ℕ → Bool
@@ -122,7 +123,7 @@ same (x ∷ xs) (y ∷ ys) = eqb x y && same xs ys
 
 -- row n of the list comes to these numbers
 abbrev settles : List ℕ → ℕ → List ℕ → Bool
-settles l n o = same (outcome (settled (viewOf l) below (n - 1))) o
+settles l n o = same (outcome n (settled (viewOf l) below (n - 1))) o
 
 -- the list with another number in a field of row n
 abbrev with : List ℕ → ℕ → ℕ → ℕ → List ℕ
@@ -136,28 +137,40 @@ settlings =
     ∷ settles network 4 (121000 ∷ 1200 ∷ 1301000 ∷ [])
     -- the least pickup offered is 61,001 + 3 × 20,000; a cutoff at 1,301,001 would not see its near fault
     ∷ settles (with network 4 atLow 61001) 4 (121001 ∷ 1200 ∷ 0 ∷ [])
-    -- the greatest offered is the pickup, and none is left for the cutoff; one less, and there is no pickup
+    -- the greatest offered is the pickup, and none is left for the cutoff; one less, and none meets P2, or P1: RANGE
     ∷ settles (with network 4 atHigh 121000) 4 (121000 ∷ 1200 ∷ 0 ∷ [])
-    ∷ settles (with network 4 atHigh 120999) 4 (6 ∷ [])
-    -- P3, and P4 of the motor and of the transformer where it is backed, at the least pickup and one off
+    ∷ settles (with network 4 atHigh 120999) 4 (11 ∷ 4 ∷ 0 ∷ [])
+    ∷ settles (with network 1 atHigh 12100) 1 (12100 ∷ 0 ∷ 0 ∷ [])
+    ∷ settles (with network 1 atHigh 12099) 1 (11 ∷ 1 ∷ 0 ∷ [])
+    -- P3, and P4 of the motor and of the transformer where it is backed, at the least pickup and one off: OWN ZONE, BACKUP of the
+    -- motor, whose number is 3, though the transformer's far is too small too, and of the transformer
     ∷ settles (with network 4 atFar 181500) 4 (121000 ∷ 1200 ∷ 1301000 ∷ [])
-    ∷ settles (with network 4 atFar 181499) 4 (6 ∷ [])
+    ∷ settles (with network 4 atFar 181499) 4 (12 ∷ 4 ∷ 0 ∷ [])
     ∷ settles (with network 3 atFar 2178000) 4 (121000 ∷ 1200 ∷ 1301000 ∷ [])
-    ∷ settles (with network 3 atFar 2177999) 4 (6 ∷ [])
+    ∷ settles (with network 3 atFar 2177999) 4 (13 ∷ 4 ∷ 3 ∷ [])
     ∷ settles (with (with network 2 atBacked 1) 2 atFar 87120) 4 (121000 ∷ 1200 ∷ 1301000 ∷ [])
-    ∷ settles (with (with network 2 atBacked 1) 2 atFar 87119) 4 (6 ∷ [])
+    ∷ settles (with (with network 2 atBacked 1) 2 atFar 87119) 4 (13 ∷ 4 ∷ 2 ∷ [])
+    -- both fail, the later one by more: the first is named; the own zone before them, and RANGE before it
+    ∷ settles (with (with (with network 2 atBacked 1) 2 atFar 87119) 3 atFar 1) 4 (13 ∷ 4 ∷ 2 ∷ [])
+    ∷ settles (with (with network 3 atFar 2177999) 4 atFar 181499) 4 (12 ∷ 4 ∷ 0 ∷ [])
+    ∷ settles (with (with network 4 atFar 1) 4 atHigh 120999) 4 (11 ∷ 4 ∷ 0 ∷ [])
+    -- row 1 feeds nothing: far alone, here at 15 × 12,100 = 10 × 18,150
+    ∷ settles (with network 1 atFar 18150) 1 (12100 ∷ 0 ∷ 122100 ∷ [])
+    ∷ settles (with network 1 atFar 18149) 1 (12 ∷ 1 ∷ 0 ∷ [])
     -- the delay at the ceiling and one off; from the floor on
     ∷ settles (with network 4 atCeiling 1200) 4 (121000 ∷ 1200 ∷ 1301000 ∷ [])
-    ∷ settles (with network 4 atCeiling 1199) 4 (7 ∷ [])
+    ∷ settles (with network 4 atCeiling 1199) 4 (7 ∷ 4 ∷ 0 ∷ [])
     ∷ settles (with network 4 atFloor 1201) 4 (121000 ∷ 1201 ∷ 1301000 ∷ [])
     ∷ settles (with network 3 atCeiling 100) 3 (825000 ∷ 100 ∷ 1525000 ∷ [])
-    ∷ settles (with network 3 atCeiling 99) 3 (7 ∷ [])
+    ∷ settles (with network 3 atCeiling 99) 3 (7 ∷ 3 ∷ 0 ∷ [])
     -- the row's own device at the ceiling and one off; device 3 waits for the fed row's 300
-    ∷ settles (with network 2 atCeiling 899) 2 (7 ∷ [])
+    ∷ settles (with network 2 atCeiling 899) 2 (7 ∷ 2 ∷ 0 ∷ [])
     ∷ settles (with (with network 2 atDevice 3) 2 atCeiling 700) 2 (41250 ∷ 700 ∷ 501250 ∷ [])
-    ∷ settles (with (with network 2 atDevice 3) 2 atCeiling 699) 2 (7 ∷ [])
-    -- neither a pickup nor a delay: 6 before 7
-    ∷ settles (with (with network 4 atFar 181499) 4 atCeiling 1199) 4 (6 ∷ [])
+    ∷ settles (with (with network 2 atDevice 3) 2 atCeiling 699) 2 (7 ∷ 2 ∷ 0 ∷ [])
+    -- neither a pickup nor a delay: 11, 12 and 13 before 7
+    ∷ settles (with (with network 4 atHigh 120999) 4 atCeiling 1199) 4 (11 ∷ 4 ∷ 0 ∷ [])
+    ∷ settles (with (with network 4 atFar 181499) 4 atCeiling 1199) 4 (12 ∷ 4 ∷ 0 ∷ [])
+    ∷ settles (with (with network 3 atFar 2177999) 4 atCeiling 1199) 4 (13 ∷ 4 ∷ 3 ∷ [])
     -- the cutoff of a line one off, and the same row as a transformer
     ∷ settles (with network 4 atNear 1561199) 4 (121000 ∷ 1200 ∷ 0 ∷ [])
     ∷ settles (with network 4 atKind 2) 4 (121000 ∷ 1200 ∷ 0 ∷ [])

@@ -3,14 +3,17 @@
 use mathlib.Core.Bool.{Bool, cond, _&&_}
 use Prim.Native.Nat.{ℕ, _+_, _-_, _*_, _≤_}
 use lib.Dec.{leb, eqb}
+use Rattle.fold.specs.declared.Found.{Found}
+use Rattle.fold.specs.declared.Found.the-variants.{Nothing}
 use Rattle.fold.specs.Fold.{sumTo, maxTo}
 use Rattle.layout.specs.declared.CardRow.{CardRow}
 use Rattle.layout.specs.declared.Row.{Row}
 use Rattle.layout.specs.View.{View, Settings}
 use Rattle.settle.specs.declared.Fed.{Fed}
+use Rattle.settle.specs.declared.Picked.{Picked}
 use Rattle.settle.specs.declared.Settled.{Settled}
-use Rattle.settle.specs.Conditions.{atLeast, fed, loadOf, returnsAfterSelfStart, seesOwnZone, withinDelays, marginBetween}
-use Rattle.settle.specs.Settle.{leastPickup, leastDelay, outcomeOf}
+use Rattle.settle.specs.Conditions.{atLeast, fed, loadOf, returnsAfterSelfStart, withinDelays, marginBetween}
+use Rattle.settle.specs.Settle.{firstUnbacked, leastPickup, picked, leastDelay, outcomeOf}
 
 -- 1.2 times the greatest product of a current and volts that a list in range holds: 100,000,000 × 500,000
 abbrev pub reach : ℕ
@@ -53,15 +56,23 @@ clearOfAll r f I = atLeast (10 * I * r .volts) (11 * (f .excess + f .load - reac
 unfoldable pub backsUpAll : Row → Fed → ℕ → Bool
 backsUpAll r f I = atLeast (10 * (reach - f .shortfall)) (12 * I * r .volts)
 
--- the least settings of a row by the four numbers
-unfoldable pub pickupBy : Row → Fed → ℕ → Bool
-pickupBy r f I = (returnsAfterSelfStart r I && clearOfAll r f I) && (seesOwnZone r I && backsUpAll r f I)
+-- the first fed row for which pickup I fails P4: the fed rows are gone through where it fails for one of them
+unfoldable pub unbackedBy : View → ℕ → Row → Fed → ℕ → Found
+unbackedBy v i r f I = cond (backsUpAll r f I) Nothing (firstUnbacked v i r I)
+
+-- P1 and P2 by the four numbers, and the pickup
+unfoldable pub aboveLoadBy : Row → Fed → ℕ → Bool
+aboveLoadBy r f I = returnsAfterSelfStart r I && clearOfAll r f I
+
+unfoldable pub pickedBy : View → ℕ → Row → Fed → Picked
+pickedBy v i r f = picked r (leastPickup r (aboveLoadBy r f)) (unbackedBy v i r f)
 
 unfoldable pub delayBy : Row → Fed → ℕ → Bool
 delayBy r f t = withinDelays r t && leb (f .earliest) t
 
-unfoldable pub settledBy : Row → Fed → Settled
-settledBy r f = outcomeOf r (leastPickup r (pickupBy r f)) (leastDelay r (delayBy r f))
+-- the least settings of row i, by its fields r
+unfoldable pub settledBy : View → ℕ → Row → Fed → Settled
+settledBy v i r f = outcomeOf r (pickedBy v i r f) (leastDelay r (delayBy r f))
 
 -- the range in which the four numbers cannot overflow
 pub record FedBounded (f : Fed) : Type 0 where

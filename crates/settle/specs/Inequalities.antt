@@ -1,8 +1,10 @@
--- [01 §3, §4] The conditions as a reader of the section writes them, by inequalities: of one row, the rows that it feeds being at the
+-- [01 §3, §4], [02 §2, §5] The conditions as a reader of the section writes them, by inequalities: of one row, the rows that it feeds being at the
 -- settings k. The tests of Conditions.antt and the settling of Settle.antt are proved to say exactly this, and the demands are
 -- stated with it. Rows are counted from 0: row i has number i + 1. Definitions only.
 use mathlib.Core.Path.{_≡_}
 use Prim.Native.Nat.{ℕ, _+_, _*_, _≤_, _<_}
+use Rattle.answers.specs.declared.Cause.{Cause}
+use Rattle.answers.specs.declared.Cause.the-variants.{Range, OwnZone, Backup}
 use Rattle.grid.specs.Grid.{Available}
 use Rattle.layout.specs.declared.CardRow.{CardRow}
 use Rattle.layout.specs.declared.Row.{Row}
@@ -22,12 +24,23 @@ AvailableOn r x = Available (r .low) (r .high) (r .step) x
 abbrev pub Feeding : View → ℕ → ℕ → Type 0
 Feeding v i j = v .row j .feeder ≡ i + 1
 
--- pickup I of row i meets P1 to P4
-pub record PickupMet (v : View) (k : Settings) (i I : ℕ) : Type 0 where
+-- pickup I of row i meets P1 and P2: it is above the load
+pub record AboveLoad (v : View) (k : Settings) (i I : ℕ) : Type 0 where
   pub P1 : 11 * v .row i .selfstart * v .row i .work ≤ 10 * I * v .row i .returnfactor
   pub P2 : (j : ℕ) → j < v .count → Feeding v i j → 11 * (k j .pickup * v .row j .volts + othersLoad v i j) ≤ 10 * I * v .row i .volts
-  pub P3 : 15 * I ≤ 10 * v .row i .far
-  pub P4 : (j : ℕ) → j < v .count → Feeding v i j → v .row j .backed ≡ 1 → 12 * I * v .row i .volts ≤ 10 * v .row j .far * v .row j .volts
+
+-- it meets P3; it meets P4 for the fed row j
+abbrev pub SeesOwnZone : View → ℕ → ℕ → Type 0
+SeesOwnZone v i I = 15 * I ≤ 10 * v .row i .far
+
+abbrev pub BacksUp : View → ℕ → ℕ → ℕ → Type 0
+BacksUp v i j I = v .row j .backed ≡ 1 → 12 * I * v .row i .volts ≤ 10 * v .row j .far * v .row j .volts
+
+-- it meets P1 to P4
+pub record PickupMet (v : View) (k : Settings) (i I : ℕ) : Type 0 where
+  pub P1-P2 : AboveLoad v k i I
+  pub P3 : SeesOwnZone v i I
+  pub P4 : (j : ℕ) → j < v .count → Feeding v i j → BacksUp v i j I
 
 -- [02 §5] "the larger of the two rows' steps": delay t of row r keeps the step of the row f that it feeds, at the settings s, and its own
 pub record GradedAbove (r f : Row) (s : CardRow) (t : ℕ) : Type 0 where
@@ -64,6 +77,29 @@ NoPickup v k i = (I : ℕ) → AvailableOn (v .row i) I → PickupMet v k i I �
 
 abbrev pub NoDelay : View → Settings → ℕ → Type 0
 NoDelay v k i = (t : ℕ) → DelayMet v k i t → ⊥
+
+-- [02 §2] "its least available pickup meeting P1 and P2"
+pub record LeastAboveLoad (v : View) (k : Settings) (i I : ℕ) : Type 0 where
+  pub available : AvailableOn (v .row i) I
+  pub above-load : AboveLoad v k i I
+  pub least : (x : ℕ) → AvailableOn (v .row i) x → AboveLoad v k i x → I ≤ x
+
+-- "if there is none": no available pickup of row i meets P1 and P2
+abbrev pub NoneAboveLoad : View → Settings → ℕ → Type 0
+NoneAboveLoad v k i = (I : ℕ) → AvailableOn (v .row i) I → AboveLoad v k i I → ⊥
+
+-- "the fed rows ascending": row j is the first of them for which pickup I of row i fails P4
+pub record FirstUnbacked (v : View) (i I j : ℕ) : Type 0 where
+  pub is-row : j < v .count
+  pub feeding : Feeding v i j
+  pub fails : BacksUp v i j I → ⊥
+  pub earlier : (x : ℕ) → x < j → Feeding v i x → BacksUp v i x I
+
+-- why no available pickup of row i meets P1 to P4: 11 RANGE, 12 OWN ZONE, 13 BACKUP with the fed row's number
+pub data CauseIs (v : View) (k : Settings) (i : ℕ) : Cause → Type 0 where
+  RANGE : NoneAboveLoad v k i → CauseIs v k i Range
+  OWN-ZONE : (I : ℕ) → LeastAboveLoad v k i I → (SeesOwnZone v i I → ⊥) → CauseIs v k i OwnZone
+  BACKUP : (I j : ℕ) → LeastAboveLoad v k i I → SeesOwnZone v i I → FirstUnbacked v i I j → CauseIs v k i (Backup (j + 1))
 
 -- row i stands at its least settings: none that fits it has a lower pickup, and none a shorter delay
 pub record LeastRow (v : View) (k : Settings) (i : ℕ) : Type 0 where

@@ -1,7 +1,9 @@
--- [01 §3, §4] The least settings of one row, the rows below at the settings k. Definitions only.
-use mathlib.Core.Bool.{Bool, cond, _&&_}
-use Prim.Native.Nat.{ℕ}
+-- [01 §3, §4], [02 §2] The least settings of one row, the rows below at the settings k, or why there are none. Definitions only.
+use mathlib.Core.Bool.{Bool, not, cond, _&&_}
+use Prim.Native.Nat.{ℕ, _+_}
+use Rattle.answers.specs.declared.Cause.the-variants.{Range, OwnZone, Backup}
 use Rattle.answers.specs.declared.Reason.the-variants.{Pickup, Delay}
+use Rattle.fold.specs.First.{first}
 use Rattle.fold.specs.declared.Found.{Found}
 use Rattle.fold.specs.declared.Found.the-variants.{At, Nothing}
 use Rattle.grid.specs.Grid.{leastOn}
@@ -11,15 +13,22 @@ use Rattle.layout.specs.View.{View, Settings}
 use Rattle.settle.specs.declared.Cutoff.{Cutoff}
 use Rattle.settle.specs.declared.Cutoff.the-variants.{Fitted, NotFitted}
 use Rattle.settle.specs.declared.Outcome.{Outcome}
+use Rattle.settle.specs.declared.Picked.{Picked}
+use Rattle.settle.specs.declared.Picked.the-variants.{Fits, Unfit}
 use Rattle.settle.specs.declared.Settled.{Settled}
 use Rattle.settle.specs.declared.Settled.the-variants.{Set, Unset}
-use Rattle.settle.specs.Conditions.{eachFed, returnsAfterSelfStart, clearOf, seesOwnZone, backsUp, withinDelays, gradedAbove, staysClear, seesNear}
+use Rattle.settle.specs.Conditions.{fed, eachFed, returnsAfterSelfStart, clearOf, seesOwnZone, backsUp, withinDelays, gradedAbove, staysClear, seesNear}
 
--- pickup I of row i meets P1 to P4
-unfoldable pub meetsPickup : View → Settings → ℕ → ℕ → Bool
-meetsPickup v k i I =
-    (returnsAfterSelfStart (v .row i) I && eachFed v i (λ j. clearOf v k i j I)) &&
-    (seesOwnZone (v .row i) I && eachFed v i (λ j. backsUp (v .row i) (v .row j) I))
+-- pickup I of row i meets P1 and P2: it is above the load
+unfoldable pub aboveLoad : View → Settings → ℕ → ℕ → Bool
+aboveLoad v k i I = returnsAfterSelfStart (v .row i) I && eachFed v i (λ j. clearOf v k i j I)
+
+-- row i, by its fields r, feeds row j, and pickup I fails P4 for it; the first such row, ascending
+unfoldable pub unbacked : View → ℕ → Row → ℕ → ℕ → Bool
+unbacked v i r I j = fed v i j && not (backsUp r (v .row j) I)
+
+unfoldable pub firstUnbacked : View → ℕ → Row → ℕ → Found
+firstUnbacked v i r I = first (unbacked v i r I) 0 (v .count)
 
 -- delay t of row i meets D1 and D2
 unfoldable pub meetsDelay : View → Settings → ℕ → ℕ → Bool
@@ -28,6 +37,23 @@ meetsDelay v k i t = withinDelays (v .row i) t && eachFed v i (λ j. gradedAbove
 -- the least available pickup that passes
 abbrev pub leastPickup : Row → (ℕ → Bool) → Found
 leastPickup r ok = leastOn (r .low) (r .high) (r .step) ok
+
+-- [02 §2] "its least available pickup meeting P1 and P2"
+unfoldable pub leastAboveLoad : View → Settings → ℕ → Found
+leastAboveLoad v k i = leastPickup (v .row i) (aboveLoad v k i)
+
+-- "otherwise test the own zone, then the fed rows ascending": of pickup I, `fails` being the first fed row for which it fails P4
+unfoldable pub backed : ℕ → Found → Picked
+backed I Nothing = Fits I
+backed I (At j) = Unfit (Backup (j + 1))
+
+unfoldable pub judged : Row → ℕ → Found → Picked
+judged r I fails = cond (seesOwnZone r I) (backed I fails) (Unfit OwnZone)
+
+-- "if there is none it is RANGE"
+unfoldable pub picked : Row → Found → (ℕ → Found) → Picked
+picked r Nothing fails = Unfit Range
+picked r (At I) fails = judged r I (fails I)
 
 -- the least delay that passes; delays come in steps of 1, and D1 keeps them between floor and ceiling
 abbrev pub leastDelay : Row → (ℕ → Bool) → Found
@@ -50,13 +76,13 @@ printed NotFitted = 0
 unfoldable pub shown : Outcome → CardRow
 shown o = record { pickup = o .pickup; delay = o .delay; cutoff = printed (o .cutoff) }
 
--- a row's outcome, PICKUP before DELAY
-unfoldable pub outcomeOf : Row → Found → Found → Settled
-outcomeOf r Nothing delay = Unset Pickup
-outcomeOf r (At I) Nothing = Unset Delay
-outcomeOf r (At I) (At t) = Set (record { pickup = I; delay = t; cutoff = cutoffOf r })
+-- a row's outcome, the cause that no pickup fits before DELAY
+unfoldable pub outcomeOf : Row → Picked → Found → Settled
+outcomeOf r (Unfit why) delay = Unset (Pickup why)
+outcomeOf r (Fits I) Nothing = Unset Delay
+outcomeOf r (Fits I) (At t) = Set (record { pickup = I; delay = t; cutoff = cutoffOf r })
 
 -- the least settings of row i
 unfoldable pub settled : View → Settings → ℕ → Settled
 settled v k i =
-    outcomeOf (v .row i) (leastPickup (v .row i) (meetsPickup v k i)) (leastDelay (v .row i) (meetsDelay v k i))
+    outcomeOf (v .row i) (picked (v .row i) (leastAboveLoad v k i) (firstUnbacked v i (v .row i))) (leastDelay (v .row i) (meetsDelay v k i))

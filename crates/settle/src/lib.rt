@@ -1,19 +1,25 @@
-// Section 3 of the scope: one row's least settings, from its fields and what the rows that it feeds ask of it.
+// Section 3 of the scope: one row's least settings, from its fields and what the rows that it feeds ask of it. The fed rows
+// themselves are looked at only where a refusal names one of them.
+use answers::Cause;
 use answers::Reason;
 use fold::Found;
 use grid::ceil_div;
 use grid::greater;
 use grid::least_on;
 use layout::CardRow;
+use layout::FIELDS;
 use layout::Row;
+use layout::row_at;
 ghost use mathlib.Core.Path.{_≡_};
-ghost use mathlib.Core.Bool.{_&&_};
-ghost use Prim.Native.Nat.{ℕ, _-_, _≤_};
+ghost use Prim.Native.Nat.{ℕ, _-_, _≤_, _<_};
 ghost use lib.Dec.{leb};
+ghost use Rattle.layout.specs.List.{rows};
 ghost use Rattle.layout.specs.Range.{Bounded};
-ghost use Rattle.settle.specs.Conditions.{returnsAfterSelfStart, seesOwnZone, seesNear, margin, marginBetween};
-ghost use Rattle.settle.specs.Fed.{clearOfAll, backsUpAll, pickupBy, delayBy, settledBy, shortfall, asked, FedBounded, CardBounded};
-ghost use Rattle.settle.specs.Settle.{leastPickup, leastDelay, cutoffOf, printed, shown};
+ghost use Rattle.layout.specs.View.{viewOf};
+ghost use Rattle.settle.specs.Conditions.{seesOwnZone, backsUp, seesNear, margin, marginBetween};
+ghost use Rattle.settle.specs.Fed.{aboveLoadBy, backsUpAll, unbackedBy, pickedBy, delayBy, settledBy, shortfall, asked, FedBounded, CardBounded};
+ghost use Rattle.settle.specs.Ready.{Listed};
+ghost use Rattle.settle.specs.Settle.{unbacked, firstUnbacked, judged, leastDelay, cutoffOf, printed, shown};
 
 // The cutoff is fitted at a stated pickup or not fitted [01 §3].
 pub enum Cutoff {
@@ -26,6 +32,12 @@ pub struct Outcome {
     pub pickup: u64,
     pub delay: u64,
     pub cutoff: Cutoff,
+}
+
+// A row's pickup, or why no available one fits.
+pub enum Picked {
+    Fits(u64),
+    Unfit(Cause),
 }
 
 pub enum Settled {
@@ -54,7 +66,7 @@ fn over(a: u64, b: u64) -> u64
 // The least pickup that P1 and P2 allow, available or not.
 fn pickup_from(r: Row, f: Fed) -> u64
     requires { ⌜ Bounded r × FedBounded f ⌝ }
-    ensures { λ b. ⌜ ((x : ℕ) → leb b x ≡ (returnsAfterSelfStart r x && clearOfAll r f x)) ⌝ }
+    ensures { λ b. ⌜ ((x : ℕ) → leb b x ≡ aboveLoadBy r f x) ⌝ }
 {
     let returns = ceil_div(11 * r.selfstart * r.work, 10 * r.returnfactor);
     let asked = over(f.excess + f.load, REACH);
@@ -62,25 +74,85 @@ fn pickup_from(r: Row, f: Fed) -> u64
     greater(returns, clears)
 }
 
-// P3 and P4 of a pickup.
-fn sees(r: Row, f: Fed, x: u64) -> bool
-    requires { ⌜ Bounded r × FedBounded f × (x ≤ 100000000) ⌝ }
-    ensures { λ b. ⌜ b ≡ (seesOwnZone r x && backsUpAll r f x) ⌝ }
+// P3 of a pickup.
+fn sees_own_zone(r: Row, x: u64) -> bool
+    requires { ⌜ Bounded r × (x ≤ 100000000) ⌝ }
+    ensures { λ b. ⌜ b ≡ seesOwnZone r x ⌝ }
 {
-    if 10 * r.far < 15 * x {
-        return false;
-    }
+    15 * x <= 10 * r.far
+}
+
+// P4 of a pickup, for all fed rows at once.
+fn backs_up_all(r: Row, f: Fed, x: u64) -> bool
+    requires { ⌜ Bounded r × FedBounded f × (x ≤ 100000000) ⌝ }
+    ensures { λ b. ⌜ b ≡ backsUpAll r f x ⌝ }
+{
     12 * x * r.volts <= 10 * (REACH - f.shortfall)
 }
 
-fn least_pickup(r: Row, f: Fed) -> Found
-    requires { ⌜ Bounded r × FedBounded f ⌝ }
-    ensures { λ x. ⌜ x ≡ leastPickup r (pickupBy r f) ⌝ }
+// P4 of a pickup, for one fed row.
+fn backs_up(r: Row, f: Row, x: u64) -> bool
+    requires { ⌜ Bounded r × Bounded f × (x ≤ 100000000) ⌝ }
+    ensures { λ b. ⌜ b ≡ backsUp r f x ⌝ }
 {
-    let found = least_on(r.low, r.high, r.step, pickup_from(r, f));
-    match found {
-        Found::At(x) => if sees(r, f, x) { found } else { Found::Nothing },
-        Found::Nothing => Found::Nothing,
+    if f.backed != 1 {
+        return true;
+    }
+    12 * x * r.volts <= 10 * f.far * f.volts
+}
+
+// Row j is fed by row i, whose fields are r, and pickup x of that row fails P4 for it.
+fn unbacked(list: &[u64], i: usize, r: Row, x: u64, j: usize) -> bool
+    requires { ⌜ Listed (now list) i r × (x ≤ 100000000) × (j < rows (now list)) ⌝ }
+    ensures { λ b. ⌜ b ≡ unbacked (viewOf (now (list .entry))) i r x j ⌝ }
+{
+    let f = row_at(list, j);
+    if f.feeder != (i as u64) + 1 {
+        return false;
+    }
+    !backs_up(r, f, x)
+}
+
+fn first_unbacked(list: &[u64], i: usize, r: Row, x: u64) -> Found
+    requires { ⌜ Listed (now list) i r × (x ≤ 100000000) ⌝ }
+    ensures { λ a. ⌜ a ≡ firstUnbacked (viewOf (now (list .entry))) i r x ⌝ }
+{
+    let n = list.len() / FIELDS;
+    let mut j = 0;
+    while j < n {
+        if unbacked(list, i, r, x, j) {
+            return Found::At(j as u64);
+        }
+        j += 1;
+    }
+    Found::Nothing
+}
+
+// P3, then P4, of a pickup that meets P1 and P2. The fed rows are gone through only where their sums say that P4 fails for one.
+fn judge(list: &[u64], i: usize, r: Row, f: Fed, x: u64) -> Picked
+    requires { ⌜ Listed (now list) i r × FedBounded f × (x ≤ 100000000) ⌝ }
+    ensures { λ p. ⌜ p ≡ judged r x (unbackedBy (viewOf (now (list .entry))) i r f x) ⌝ }
+{
+    if !sees_own_zone(r, x) {
+        return Picked::Unfit(Cause::OwnZone);
+    }
+    if backs_up_all(r, f, x) {
+        return Picked::Fits(x);
+    }
+    match first_unbacked(list, i, r, x) {
+        Found::At(j) => Picked::Unfit(Cause::Backup(j + 1)),
+        Found::Nothing => Picked::Fits(x),
+    }
+}
+
+// The least available pickup that meets P1 and P2, if it meets P3 and P4; else the cause.
+fn pick(list: &[u64], i: usize, r: Row, f: Fed) -> Picked
+    requires { ⌜ Listed (now list) i r × FedBounded f ⌝ }
+    ensures { λ p. ⌜ p ≡ pickedBy (viewOf (now (list .entry))) i r f ⌝ }
+{
+    match least_on(r.low, r.high, r.step, pickup_from(r, f)) {
+        Found::Nothing => Picked::Unfit(Cause::Range),
+        Found::At(x) => judge(list, i, r, f, x),
     }
 }
 
@@ -114,14 +186,14 @@ fn cutoff_at(r: Row) -> Cutoff
     }
 }
 
-// The row's least settings, or the refusal: PICKUP before DELAY.
-pub fn settle(r: Row, f: Fed) -> Settled
-    requires { ⌜ Bounded r × FedBounded f ⌝ }
-    ensures { λ s. ⌜ s ≡ settledBy r f ⌝ }
+// The least settings of row i, whose fields are r, or the refusal: RANGE, OWN ZONE or BACKUP before DELAY.
+pub fn settle(list: &[u64], i: usize, r: Row, f: Fed) -> Settled
+    requires { ⌜ Listed (now list) i r × FedBounded f ⌝ }
+    ensures { λ s. ⌜ s ≡ settledBy (viewOf (now (list .entry))) i r f ⌝ }
 {
-    match least_pickup(r, f) {
-        Found::Nothing => Settled::Unset(Reason::Pickup),
-        Found::At(pickup) => match least_delay(r, f) {
+    match pick(list, i, r, f) {
+        Picked::Unfit(why) => Settled::Unset(Reason::Pickup(why)),
+        Picked::Fits(pickup) => match least_delay(r, f) {
             Found::Nothing => Settled::Unset(Reason::Delay),
             Found::At(delay) => Settled::Set(Outcome {
                 pickup,

@@ -9,8 +9,9 @@ use lib.ListN.{length, getD}
 use Rattle.fold.proofs.BoolLaws.{not-both}
 use Rattle.answers.specs.declared.Answer.{Answer}
 use Rattle.answers.specs.declared.Answer.the-variants.{Done, Text, Count, Room, Field, Tree, Unsettled, Study, Card, Edit}
+use Rattle.answers.specs.declared.Reason.the-variants.{Pickup}
 use Rattle.answers.specs.Answer.{givenBy}
-use Rattle.answers.proofs.AnswerLaws.{reason-not-done}
+use Rattle.answers.proofs.AnswerLaws.{unsettled-above, unsettled-not-done}
 use Rattle.layout.specs.Counts.{cardMost}
 use Rattle.layout.specs.View.{View}
 use Rattle.rows.specs.InRange.{RightSize}
@@ -29,7 +30,7 @@ given-done Count h = absurd (false≢true h)
 given-done Room h = absurd (false≢true h)
 given-done (Field row k) h = absurd (false≢true h)
 given-done (Tree row) h = absurd (false≢true h)
-given-done (Unsettled row why) h = absurd (not-both h (reason-not-done why))
+given-done (Unsettled row why) h = absurd (not-both h (unsettled-not-done row why))
 given-done (Study place) h = absurd (false≢true h)
 given-done (Card row) h = absurd (false≢true h)
 given-done Edit h = absurd (false≢true h)
@@ -47,7 +48,7 @@ above-room : (a : Answer) → 3 < getD (givenBy a) 0 0 → NoText a
 above-room a h = record { not-text = λ e. omega arith; not-room = λ e. omega arith }
 
 refused-above : {v : View} {a : Answer} → RefusedAt v a → 3 < getD (givenBy a) 0 0
-refused-above (RefusedAt.PICKUP k i u n) = omega arith
+refused-above (RefusedAt.NO-PICKUP k i why u n) = omega (arith, unsettled-above (i + 1) (Pickup why))
 refused-above (RefusedAt.DELAY k i u p n) = omega arith
 
 pub whole-no-text : (l : List ℕ) → NoText (whole l blankCard .answer)
@@ -58,7 +59,7 @@ whole-no-text l = of-gets (every-list-gets l blankCard (whole l blankCard .answe
     of-gets (Gets.ROOM s n) = absurd (n (omega (arith, size-rows l s, blank-room)))
     of-gets (Gets.FIELD s r i k f) = above-room (Field (i + 1) (k + 1)) (omega arith)
     of-gets (Gets.TREE s r a i f) = above-room (Tree (i + 1)) (omega arith)
-    of-gets (Gets.PICKUP-or-DELAY {a = x} s r a b z) = above-room x (refused-above z)
+    of-gets (Gets.UNSETTLED {a = x} s r a b z) = above-room x (refused-above z)
     of-gets (Gets.DONE s r a b k m) = record { not-text = λ e. omega arith; not-room = λ e. omega arith }
 
 -- COUNT says that the size is not right
@@ -67,5 +68,5 @@ count-size (Gets.COUNT n) e = n
 count-size (Gets.ROOM s n) e = absurd (omega arith)
 count-size (Gets.FIELD s r i k f) e = absurd (omega arith)
 count-size (Gets.TREE s r a i f) e = absurd (omega arith)
-count-size (Gets.PICKUP-or-DELAY s r a b z) e = absurd (let h = refused-above z in omega arith)
+count-size (Gets.UNSETTLED s r a b z) e = absurd (let h = refused-above z in omega arith)
 count-size (Gets.DONE s r a b k m) e = absurd (omega arith)

@@ -39,7 +39,7 @@ pub struct SurfpocketPrinted {
 }
 
 // It grows with every change of what is lent or given.
-const VERSION: u64 = 1;
+const VERSION: u64 = 2;
 
 #[no_mangle]
 pub extern "C" fn surfpocket_version() -> u64

@@ -26,8 +26,8 @@ enum-known-a-3 c = search needs
 enum-known-a-4 : tie.Need-enum-known-a-4
 enum-known-a-4 c = search needs
 
-reason-number-requires : tie.Need-reason-number-requires
-reason-number-requires c κs = search needs
+unsettled-requires : tie.Need-unsettled-requires
+unsettled-requires c κs = search needs
 
 enum-known-a-5 : tie.Need-enum-known-a-5
 enum-known-a-5 c = search needs
@@ -57,7 +57,7 @@ returns-6 : tie.Need-returns-6
 returns-6 c = ap givenBy (sym (c .before .a3 .given .1))
 
 returns-7 : tie.Need-returns-7
-returns-7 c = rw (c .reason-number .ensures) (ap givenBy (sym (c .before .before .a4 .given .1)))
+returns-7 c = rw (c .unsettled .ensures) (ap givenBy (sym (c .before .before .a4 .given .1)))
 
 returns-8 : tie.Need-returns-8
 returns-8 c = ap givenBy (sym (c .before .a5 .given .1))
@@ -79,7 +79,7 @@ numbers-spec =
     enum-known-a-2
     enum-known-a-3
     enum-known-a-4
-    reason-number-requires
+    unsettled-requires
     enum-known-a-5
     enum-known-a-6
     enum-told-4

@@ -76,7 +76,7 @@ climb-field-at-requires t c κs =
     let at-5 = c .before .before .before .before .before in
     let at-10 = at-5 .before .before .before .before .before in
     let start = at-10 .before .before .before .before in
-    let k = climb-works _ _ _ _ (start .pre .1) in omega (arith, k .in-list)
+    let k = climb-works _ _ _ _ (start .pre .1) in omega (arith, k .is-row)
 
 climb-same-length-3 : (t : ℕ) → climb-lts.Need-same-length-3 (callees t) (climb-at t) climb.Post
 climb-same-length-3 t c = search needs

@@ -18,8 +18,14 @@ fed-at-requires c κs = search needs
 settle-requires : tie.Need-settle-requires
 settle-requires c κs =
     let read = c .before .before in
-    let a = read .before .before .before .before .pre in
-    (subst Bounded (sym (read .row-at .ensures)) (a .bounded), subst FedBounded (sym (c .fed-at .ensures)) (a .fed-bounded))
+    let a = read .before .before .before .before .pre in (
+      record {
+        is-row = a .is-row;
+        all-bounded = a .all-bounded;
+        bounded = subst Bounded (sym (read .row-at .ensures)) (a .all-bounded _ (a .is-row));
+      },
+      subst FedBounded (sym (c .fed-at .ensures)) (a .fed-bounded),
+    )
 
 enum-known-why : tie.Need-enum-known-why
 enum-known-why c = search needs
@@ -43,10 +49,10 @@ push-requires c κs =
     let settled = outcome .before .before in
     let read = settled .before .before .before in
     let a = read .before .before .before .before .pre in
-    let bounded = subst Bounded (sym (read .row-at .ensures)) (a .bounded) in
-    let k = set-bounded _ _ _ bounded (sym (outcome .o .given .1) ∙ settled .settle .ensures) in
+    let bounded = subst Bounded (sym (read .row-at .ensures)) (a .all-bounded _ (a .is-row)) in
+    let k = set-bounded _ _ _ _ _ bounded (sym (outcome .o .given .1) ∙ settled .settle .ensures) in
     rw (read .row-at .ensures)
-    (record { bounded = a .bounded; settings = subst CardBounded (sym (shown .card-row .ensures)) k; feeder = a .feeder })
+    (record { bounded = a .all-bounded _ (a .is-row); settings = subst CardBounded (sym (shown .card-row .ensures)) k; feeder = a .feeder })
 
 same-length : tie.Need-same-length
 same-length c = search needs

@@ -1,0 +1,197 @@
+-- [02 §2] Why no pickup fits a row. The step above 0 is section 2's. Read with specs/Inequalities.antt.
+--     least-exactly       `leastAboveLoad` is the least available pickup meeting P1 and P2, or there is none
+--     cause-exactly       RANGE, OWN ZONE and BACKUP are given exactly where they are due
+--     cause-one           and there is one only
+--     fits-exactly        otherwise that pickup fits: it meets P3 and P4
+--     exists-exactly      some available pickup meets P1 to P4 exactly when none of the three applies
+--     range-exactly       RANGE is given exactly where no available pickup meets P1 and P2 (SettledTheorems.antt)
+--     own-zone-true, backup-true      where P3, or P4 for a fed row, fails for the least, it fails for every available pickup meeting P1 and P2
+use mathlib.Core.Path.{_≡_, refl, sym, _∙_, subst}
+use mathlib.Core.Bool.{true, false}
+use mathlib.Core.Logic.{_↔_, _⊎_, inl, inr, ⊎-elim}
+use Prim.Native.Nat.{ℕ, _+_, _≤_, _<_}
+use native.Mathlib.Nat.{mul-le-mul-left, mul-le-mul-right, le-trans}
+use native.Mathlib.Omega.{arith}
+use Rattle.answers.specs.declared.Cause.{Cause}
+use Rattle.answers.specs.declared.Cause.the-variants.{Range, OwnZone, Backup}
+use Rattle.fold.specs.declared.Found.{Found}
+use Rattle.fold.specs.declared.Found.the-variants.{At, Nothing}
+use Rattle.fold.proofs.BoolLaws.{passes-or-fails, fails, not-both, zero-not-one, lt-or-le}
+use Rattle.grid.proofs.GridLaws.{leastOn-least, leastOn-nothing, leastOn-is, leastOn-none}
+use Rattle.layout.specs.View.{View, Settings}
+use Rattle.settle.specs.declared.Picked.{Picked}
+use Rattle.settle.specs.declared.Picked.the-variants.{Fits, Unfit}
+use Rattle.settle.specs.Conditions.{seesOwnZone}
+use Rattle.settle.specs.Inequalities.{AvailableOn, Feeding, AboveLoad, SeesOwnZone, BacksUp, PickupMet, SomePickup, NoPickup}
+use Rattle.settle.specs.Inequalities.{LeastAboveLoad, NoneAboveLoad, CauseIs}
+use Rattle.settle.specs.Inequalities.CauseIs.{RANGE, OWN-ZONE, BACKUP}
+use Rattle.settle.specs.Settle.{aboveLoad, firstUnbacked, leastAboveLoad, backed, judged, picked}
+use Rattle.settle.proofs.ConditionTheorems.{P3-exactly}
+use Rattle.settle.proofs.MeetsTheorems.{load-exactly, unbacked-exactly, backed-all-exactly}
+
+-- a lower pickup sees what a higher one sees
+module _ (v : View) (i : ℕ) {I x : ℕ} (le : I ≤ x) where
+  zone-down : SeesOwnZone v i x → SeesOwnZone v i I
+  zone-down z = omega arith
+
+  backup-down : (j : ℕ) → BacksUp v i j x → BacksUp v i j I
+  backup-down j b backed = le-trans (mul-le-mul-right (v .row i .volts) (mul-le-mul-left 12 le)) (b backed)
+
+module _ (v : View) (k : Settings) (i : ℕ) where
+  -- the cause is the true one: no other available pickup that meets P1 and P2 would do
+  pub own-zone-true :
+      (I : ℕ) → LeastAboveLoad v k i I → (SeesOwnZone v i I → ⊥) →
+      (x : ℕ) → AvailableOn (v .row i) x → AboveLoad v k i x → SeesOwnZone v i x → ⊥
+  own-zone-true I m n x a h z = n (zone-down v i (m .least x a h) z)
+
+  pub backup-true :
+      (I j : ℕ) → LeastAboveLoad v k i I → (BacksUp v i j I → ⊥) →
+      (x : ℕ) → AvailableOn (v .row i) x → AboveLoad v k i x → BacksUp v i j x → ⊥
+  backup-true I j m n x a h b = n (backup-down v i (m .least x a h) j b)
+
+  pub range-means : {why : Cause} → why ≡ Range → CauseIs v k i why → NoneAboveLoad v k i
+  range-means e (RANGE n) = n
+  range-means e (OWN-ZONE I m n) = absurd (zero-not-one cc)
+  range-means e (BACKUP I j m z u) = absurd (zero-not-one cc)
+
+  -- so none meets P1 to P4
+  pub cause-no-pickup : {why : Cause} → CauseIs v k i why → NoPickup v k i
+  cause-no-pickup (RANGE none) x a h = none x a (h .P1-P2)
+  cause-no-pickup (OWN-ZONE I m n) x a h = own-zone-true I m n x a (h .P1-P2) (h .P3)
+  cause-no-pickup (BACKUP I j m z u) x a h =
+      backup-true I j m (u .fails) x a (h .P1-P2) (h .P4 j (u .is-row) (u .feeding))
+
+  -- the least pickup that meets P1 to P4 is the least that meets P1 and P2
+  pub least-above-load :
+      (I : ℕ) → AvailableOn (v .row i) I → PickupMet v k i I → ((x : ℕ) → AvailableOn (v .row i) x → PickupMet v k i x → I ≤ x) →
+      LeastAboveLoad v k i I
+  least-above-load I a h least =
+      record {
+        available = a;
+        above-load = h .P1-P2;
+        least =
+            λ x b l.
+            ⊎-elim
+            (λ (g : x < I).
+            least x b
+            (record {
+              P1-P2 = l;
+              P3 = zone-down v i (omega arith) (h .P3);
+              P4 = λ j r f. backup-down v i (omega arith) j (h .P4 j r f);
+            }))
+            (λ (g : I ≤ x). g)
+            (lt-or-le x I);
+      }
+
+module _ (v : View) (k : Settings) (i : ℕ) (p : 0 < v .row i .step) where
+  pub least-exactly : (I : ℕ) → (leastAboveLoad v k i ≡ At I) ↔ LeastAboveLoad v k i I
+  unfolding leastAboveLoad
+  least-exactly I = (
+    λ e.
+        let m = leastOn-least _ _ _ p (aboveLoad v k i) I e in
+        record {
+          available = m .available;
+          above-load = load-exactly v k i I .0 (m .passes);
+          least = λ x a h. m .least x a (load-exactly v k i x .1 h);
+        },
+    λ m.
+        leastOn-is _ _ _ p (aboveLoad v k i) I
+        (record {
+          available = m .available;
+          passes = load-exactly v k i I .1 (m .above-load);
+          least = λ x a t. m .least x a (load-exactly v k i x .0 t);
+        }),
+  )
+
+  pub none-exactly : (leastAboveLoad v k i ≡ Nothing) ↔ NoneAboveLoad v k i
+  unfolding leastAboveLoad
+  none-exactly = (
+    λ e I a h. not-both (load-exactly v k i I .1 h) (leastOn-nothing _ _ _ p (aboveLoad v k i) e I a),
+    λ n. leastOn-none _ _ _ p (aboveLoad v k i) (λ I a. fails (aboveLoad v k i I) (λ t. n I a (load-exactly v k i I .0 t))),
+  )
+
+  -- the pickup of row i, or the cause
+  abbrev pub pickupOf : Picked
+  pickupOf = picked (v .row i) (leastAboveLoad v k i) (firstUnbacked v i (v .row i))
+
+  -- what it comes to: the least pickup meeting P1 and P2 also meets P3 and P4, or the cause is so
+  abbrev Comes : Picked → Type 0
+  Comes (Fits I) = LeastAboveLoad v k i I × PickupMet v k i I
+  Comes (Unfit why) = CauseIs v k i why
+
+  comes : Comes pickupOf
+  unfolding picked judged backed
+  comes = by-least (leastAboveLoad v k i) refl
+    where
+      by-fed : (I : ℕ) → LeastAboveLoad v k i I → SeesOwnZone v i I → (f : Found) → firstUnbacked v i (v .row i) I ≡ f → Comes (backed I f)
+      by-fed I m z Nothing e = (m, record { P1-P2 = m .above-load; P3 = z; P4 = backed-all-exactly v i I .0 e })
+      by-fed I m z (At j) e = BACKUP I j m z (unbacked-exactly v i I j .0 e)
+
+      by-least : (f : Found) → leastAboveLoad v k i ≡ f → Comes (picked (v .row i) f (firstUnbacked v i (v .row i)))
+      by-least Nothing e = RANGE (none-exactly .0 e)
+      by-least (At I) e =
+          ⊎-elim
+          (λ (z : seesOwnZone (v .row i) I ≡ true).
+          rw z (by-fed I (least-exactly I .0 e) (P3-exactly (v .row i) I .0 z) (firstUnbacked v i (v .row i) I) refl))
+          (λ (z : seesOwnZone (v .row i) I ≡ false).
+          rw z (OWN-ZONE I (least-exactly I .0 e) (λ s. not-both (P3-exactly (v .row i) I .1 s) z)))
+          (passes-or-fails (seesOwnZone (v .row i) I))
+
+  of-cause : {why : Cause} → CauseIs v k i why → pickupOf ≡ Unfit why
+  unfolding picked judged backed
+  of-cause (RANGE n) = rw (none-exactly .1 n)
+  of-cause (OWN-ZONE I m n) =
+      rw (least-exactly I .1 m, fails (seesOwnZone (v .row i) I) (λ t. n (P3-exactly (v .row i) I .0 t)))
+  of-cause (BACKUP I j m z u) =
+      rw (least-exactly I .1 m, P3-exactly (v .row i) I .1 z, unbacked-exactly v i I j .1 u)
+
+  pub cause-exactly : (why : Cause) → (pickupOf ≡ Unfit why) ↔ CauseIs v k i why
+  cause-exactly why = (λ e. subst Comes e comes, of-cause)
+
+  -- there is one only
+  pub cause-one : {why why′ : Cause} → CauseIs v k i why → CauseIs v k i why′ → why ≡ why′
+  cause-one c c′ = same (sym (of-cause c) ∙ of-cause c′)
+    where
+      same : {why why′ : Cause} → Unfit why ≡ Unfit why′ → why ≡ why′
+      same e = cc
+
+  pub fits-exactly : (I : ℕ) → (pickupOf ≡ Fits I) ↔ (LeastAboveLoad v k i I × PickupMet v k i I)
+  unfolding picked judged backed
+  fits-exactly I = (λ e. subst Comes e comes, of-fits)
+    where
+      of-fits : LeastAboveLoad v k i I × PickupMet v k i I → pickupOf ≡ Fits I
+      of-fits m = rw (least-exactly I .1 (m .0), P3-exactly (v .row i) I .1 (m .1 .P3), backed-all-exactly v i I .1 (m .1 .P4))
+
+  -- a pickup fits, or one of the three applies
+  pub fits-or-cause : ((I : ℕ) × (pickupOf ≡ Fits I)) ⊎ ((why : Cause) × CauseIs v k i why)
+  fits-or-cause = by-cases pickupOf refl
+    where
+      by-cases : (x : Picked) → pickupOf ≡ x → ((I : ℕ) × (pickupOf ≡ Fits I)) ⊎ ((why : Cause) × CauseIs v k i why)
+      by-cases (Fits I) e = inl (I, e)
+      by-cases (Unfit why) e = inr (why, cause-exactly why .0 e)
+
+  -- where some pickup meets P1 to P4, one fits
+  pub fits-some : SomePickup v k i → (I : ℕ) × (pickupOf ≡ Fits I)
+  fits-some s = ⊎-elim (λ f. f) (λ c. absurd (cause-no-pickup v k i (c .1) (s .0) (s .1) (s .2))) fits-or-cause
+
+  pub exists-exactly : SomePickup v k i ↔ ((why : Cause) → CauseIs v k i why → ⊥)
+  exists-exactly = (
+    λ s why c. cause-no-pickup v k i c (s .0) (s .1) (s .2),
+    λ none.
+        ⊎-elim
+        (λ (f : (I : ℕ) × (pickupOf ≡ Fits I)).
+        let m = fits-exactly (f .0) .0 (f .1) in (f .0, m .0 .available, m .1))
+        (λ (c : (why : Cause) × CauseIs v k i why). absurd (none (c .0) (c .1)))
+        fits-or-cause,
+  )
+
+  pub none-exists-exactly : NoPickup v k i ↔ ((why : Cause) × CauseIs v k i why)
+  none-exists-exactly = (
+    λ n.
+        ⊎-elim
+        (λ (f : (I : ℕ) × (pickupOf ≡ Fits I)).
+        let m = fits-exactly (f .0) .0 (f .1) in absurd (n (f .0) (m .0 .available) (m .1)))
+        (λ c. c)
+        fits-or-cause,
+    λ c. cause-no-pickup v k i (c .1),
+  )

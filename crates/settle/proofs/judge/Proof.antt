@@ -1,0 +1,72 @@
+-- `settle::judge` meets its contract: P3 is tested first; then the sums say whether P4 fails for some fed row, and the first is looked for.
+use native.Mathlib.Omega.{arith}
+use borrow.Author.Needs.{needs}
+use mathlib.Core.Path.{sym, _∙_}
+use borrow.Author.Tests.{not-true, not-false}
+use Rattle.settle.specs.Settle.{backed}
+use Rattle.settle.proofs.OutcomeLaws.{unbacked-below, judge-blind, judge-fits, judge-searched}
+use Rattle.settle.proofs.judge.Statement.{statement}
+use Rattle.settle.proofs.judge.Tie as tie
+
+sees-own-zone-requires : tie.Need-sees-own-zone-requires
+sees-own-zone-requires c κs = search needs
+
+returns : tie.Need-returns
+returns c = judge-blind _ _ _ _ _ (sym (c .before .sees-own-zone .ensures) ∙ not-true _ (c .if1 .taken))
+
+backs-up-all-requires : tie.Need-backs-up-all-requires
+backs-up-all-requires c κs = search needs
+
+returns-2 : tie.Need-returns-2
+returns-2 c =
+    let own-zone = c .before .before in
+    judge-fits _ _ _ _ _ (sym (own-zone .before .sees-own-zone .ensures) ∙ not-false _ (own-zone .if1 .left))
+    (sym (c .before .backs-up-all .ensures) ∙ c .if2 .taken)
+
+first-unbacked-requires : tie.Need-first-unbacked-requires
+first-unbacked-requires c κs = search needs
+
+enum-known-j : tie.Need-enum-known-j
+enum-known-j c = search needs
+
+add-t13 : tie.Need-add-t13
+add-t13 c =
+    let found = c .before in
+    omega (arith, unbacked-below _ _ _ _ (sym (found .before .before .first-unbacked .ensures) ∙ found .j .given .1))
+
+enum-told : tie.Need-enum-told
+enum-told c = search needs
+
+returns-3 : tie.Need-returns-3
+unfolding backed
+returns-3 c =
+    let found = c .before in
+    let searched = found .before .before in
+    let all = searched .before in
+    let own-zone = all .before .before in
+    judge-searched _ _ _ _ _ (sym (own-zone .before .sees-own-zone .ensures) ∙ not-false _ (own-zone .if1 .left))
+    (sym (all .before .backs-up-all .ensures) ∙ all .if2 .left) _ (sym (searched .first-unbacked .ensures) ∙ found .j .given .1)
+
+returns-4 : tie.Need-returns-4
+unfolding backed
+returns-4 c =
+    let searched = c .before .before in
+    let all = searched .before in
+    let own-zone = all .before .before in
+    judge-searched _ _ _ _ _ (sym (own-zone .before .sees-own-zone .ensures) ∙ not-false _ (own-zone .if1 .left))
+    (sym (all .before .backs-up-all .ensures) ∙ all .if2 .left) _ (sym (searched .first-unbacked .ensures) ∙ c .enum-told .given .1)
+
+pub judge-spec : {M : Type 1} → statement M
+judge-spec =
+    tie.close
+    (tie.spec
+    sees-own-zone-requires
+    returns
+    backs-up-all-requires
+    returns-2
+    first-unbacked-requires
+    enum-known-j
+    add-t13
+    enum-told
+    returns-3
+    returns-4)
