@@ -143,9 +143,18 @@ pub fn card(text: &[u8], out: &mut [u8]) -> (Answer, u64) {
 
 /// The library's version, and the header's.
 pub fn versions() -> [u64; 2] {
-    const HEADER: &str = include_str!("../../../include/surfpocket.h");
-    let defined = HEADER.lines().find_map(|line| line.strip_prefix("#define SURFPOCKET_VERSION "));
-    let header = defined.and_then(|version| version.trim().parse().ok()).expect("a version");
+    let [("", header)] = defined("VERSION")[..] else { panic!("a version") };
     // SAFETY: nothing goes over.
     [unsafe { surfpocket_version() }, header]
+}
+
+/// The header's numbers whose names begin so, by the rest of the name.
+pub fn defined(start: &str) -> Vec<(&'static str, u64)> {
+    const HEADER: &str = include_str!("../../../include/surfpocket.h");
+    let number = |line: &'static str| {
+        let mut words = line.strip_prefix("#define SURFPOCKET_")?.split_whitespace();
+        let rest = words.next()?.strip_prefix(start)?;
+        Some((rest, words.next()?.parse().ok()?))
+    };
+    HEADER.lines().filter_map(number).collect()
 }

@@ -1,8 +1,8 @@
-//! Texts on each side of the bounds of section 6, with the number and place
-//! that the document gives each, in ample room, in exact room and a byte short.
+//! Texts on each side of the bounds of section 6, with the answer that the
+//! documents give each, in ample room, in exact room and a byte short.
 
 use crate::boundary::CARD_ROOM;
-use crate::run::{Found, Item, Seen};
+use crate::run::{Found, Seen};
 use crate::texts::{ample, same};
 use second::answer::*;
 use second::generate::{list_shaped, sized_text, text, Shape};
@@ -10,13 +10,19 @@ use second::row::{FIELDS, MOST_ROWS};
 use second::text::{card, header, MOST_BYTES};
 
 /// The list of section 6.
-const LIST: &[u8] = include_bytes!("../../../examples/lists/two-feeders.csv");
+const LIST: &str = include_str!("../../../examples/lists/two-feeders.csv");
 
-const OK: Item = (DONE, 0);
-const BAD_ROW: Item = (TEXT, 2);
+const OK: Answer = Answer::DONE;
+const BAD_ROW: Answer = bad(2);
+const TOO_LONG: Answer = bad(0);
+const NO_COUNT: Answer = Answer::at(COUNT, 0);
 
-/// What a text is, its bytes, and the number and place it must give.
-type Case = (String, Vec<u8>, Item);
+const fn bad(line: u64) -> Answer {
+    Answer::at(TEXT, line)
+}
+
+/// What a text is, its bytes, and the answer it must get.
+type Case = (String, Vec<u8>, Answer);
 
 pub fn compare(_: u64, seed: u64, seen: &mut Seen) -> Found {
     let cases = [sizes(), row_counts(seed), line_ends(), names(), numbers()].concat();
@@ -34,11 +40,22 @@ pub fn compare(_: u64, seed: u64, seen: &mut Seen) -> Found {
 
 /// The list with another cell in that column of row 1.
 fn with_cell(column: usize, cell: &[u8]) -> Vec<u8> {
-    let start = header().len() + 2;
-    let end = start + LIST[start..].iter().position(|&byte| byte == b'\r').expect("a line end");
-    let mut cells: Vec<&[u8]> = LIST[start..end].split(|&byte| byte == b',').collect();
-    cells[column] = cell;
-    [&LIST[..start], &cells.join(&b','), &LIST[end..]].concat()
+    with_cells(&[(1, column, cell)])
+}
+
+/// Row, column and what stands there. The name takes the place of field 1, so
+/// that columns count as fields do.
+pub type Cell<'a> = (usize, usize, &'a [u8]);
+
+/// The list with other cells.
+pub fn with_cells(changes: &[Cell]) -> Vec<u8> {
+    let cells = |line: &'static str| line.as_bytes().split(|&byte| byte == b',').collect();
+    let mut lines: Vec<Vec<&[u8]>> = LIST.split("\r\n").map(cells).collect();
+    for &(row, column, cell) in changes {
+        lines[row][column] = cell;
+    }
+    let lines: Vec<Vec<u8>> = lines.iter().map(|cells| cells.join(&b',')).collect();
+    lines.join(&b"\r\n"[..])
 }
 
 fn after_header(rest: &[u8]) -> Vec<u8> {
@@ -53,9 +70,9 @@ fn filled(mut text: Vec<u8>, byte: u8, bytes: usize) -> Vec<u8> {
 
 fn sizes() -> Vec<Case> {
     let mut cases = vec![
-        ("no bytes".to_string(), vec![], (TEXT, 1)),
-        ("most bytes, rows".to_string(), sized_text(MOST_BYTES), (COUNT, 0)),
-        ("a byte more, rows".to_string(), sized_text(MOST_BYTES + 1), (TEXT, 0)),
+        ("no bytes".to_string(), vec![], bad(1)),
+        ("most bytes, rows".to_string(), sized_text(MOST_BYTES), NO_COUNT),
+        ("a byte more, rows".to_string(), sized_text(MOST_BYTES + 1), TOO_LONG),
     ];
     for (what, start, line) in [
         ("one open quote", after_header(b"1,\""), 2),
@@ -65,13 +82,13 @@ fn sizes() -> Vec<Case> {
         for byte in [b'"', b'a', b','] {
             let sized = |bytes| filled(start.clone(), byte, bytes);
             let what = |bytes| format!("{what}, {bytes} bytes of {byte}");
-            cases.push((what(MOST_BYTES), sized(MOST_BYTES), (TEXT, line)));
-            cases.push((what(MOST_BYTES + 1), sized(MOST_BYTES + 1), (TEXT, 0)));
+            cases.push((what(MOST_BYTES), sized(MOST_BYTES), bad(line)));
+            cases.push((what(MOST_BYTES + 1), sized(MOST_BYTES + 1), TOO_LONG));
         }
     }
     let ended = |bytes: usize| [&sized_text(bytes - 2), &b"\r\n"[..]].concat();
-    cases.push(("most bytes, last CRLF".to_string(), ended(MOST_BYTES), (COUNT, 0)));
-    cases.push(("a byte more, last CRLF".to_string(), ended(MOST_BYTES + 1), (TEXT, 0)));
+    cases.push(("most bytes, last CRLF".to_string(), ended(MOST_BYTES), NO_COUNT));
+    cases.push(("a byte more, last CRLF".to_string(), ended(MOST_BYTES + 1), TOO_LONG));
     cases
 }
 
@@ -86,15 +103,15 @@ fn row_counts(seed: u64) -> Vec<Case> {
     let bad_after = |count: usize| {
         let text = rows(count);
         let end = if text.ends_with(b"\r\n") { &b"x"[..] } else { &b"\r\nx"[..] };
-        ([&text, end].concat(), (TEXT, count as u64 + 2))
+        ([&text, end].concat(), bad(count as u64 + 2))
     };
     let mut cases = vec![
-        ("no rows".to_string(), header().into_bytes(), (COUNT, 0)),
-        ("no rows, CRLF".to_string(), after_header(b""), (COUNT, 0)),
+        ("no rows".to_string(), header().into_bytes(), NO_COUNT),
+        ("no rows, CRLF".to_string(), after_header(b""), NO_COUNT),
         ("most rows, accepted".to_string(), accepted.expect("half are"), OK),
-        ("most rows".to_string(), rows(MOST_ROWS), (FIELD, 1)),
-        ("a row more".to_string(), rows(MOST_ROWS + 1), (COUNT, 0)),
-        ("two rows more".to_string(), rows(MOST_ROWS + 2), (COUNT, 0)),
+        ("most rows".to_string(), rows(MOST_ROWS), Answer::field(1, 4)),
+        ("a row more".to_string(), rows(MOST_ROWS + 1), NO_COUNT),
+        ("two rows more".to_string(), rows(MOST_ROWS + 2), NO_COUNT),
     ];
     for count in [0, 1, MOST_ROWS - 1, MOST_ROWS, MOST_ROWS + 1, MOST_ROWS + 2, 900] {
         let (text, wanted) = bad_after(count);
@@ -108,19 +125,17 @@ fn is_done(text: &[u8]) -> bool {
 }
 
 fn line_ends() -> Vec<Case> {
-    let rows = &LIST[header().len() + 2..LIST.len() - 2];
-    let cut = rows.iter().position(|&byte| byte == b'\r').expect("two rows");
-    let (first, second) = (&rows[..cut], &rows[cut + 2..]);
+    let lines: Vec<&[u8]> = LIST.split("\r\n").map(str::as_bytes).collect();
     let joined =
-        |ends: [&[u8]; 3]| [header().as_bytes(), ends[0], first, ends[1], second, ends[2]].concat();
+        |ends: [&[u8]; 3]| [lines[0], ends[0], lines[1], ends[1], lines[2], ends[2]].concat();
     const CRLF: &[u8] = b"\r\n";
     let mut cases = vec![
         ("as it stands".to_string(), joined([CRLF, CRLF, CRLF]), OK),
         ("no last CRLF".to_string(), joined([CRLF, CRLF, b""]), OK),
-        ("empty first line".to_string(), [CRLF, LIST].concat(), (TEXT, 1)),
-        ("only CRLF".to_string(), CRLF.to_vec(), (TEXT, 1)),
-        ("LF alone everywhere".to_string(), joined([b"\n"; 3]), (TEXT, 1)),
-        ("CR alone everywhere".to_string(), joined([b"\r"; 3]), (TEXT, 1)),
+        ("empty first line".to_string(), [CRLF, LIST.as_bytes()].concat(), bad(1)),
+        ("only CRLF".to_string(), CRLF.to_vec(), bad(1)),
+        ("LF alone everywhere".to_string(), joined([b"\n"; 3]), bad(1)),
+        ("CR alone everywhere".to_string(), joined([b"\r"; 3]), bad(1)),
     ];
     // Each bad end is found in the line it should have ended, an empty line in its own.
     for (end, later) in
@@ -129,7 +144,7 @@ fn line_ends() -> Vec<Case> {
         for place in 0..3 {
             let mut ends = [CRLF; 3];
             ends[place] = end;
-            let wanted = (TEXT, place as u64 + 1 + later);
+            let wanted = bad(place as u64 + 1 + later);
             cases.push((format!("{end:?} at the end of line {}", place + 1), joined(ends), wanted));
         }
     }
@@ -206,7 +221,10 @@ fn numbers() -> Vec<Case> {
     ];
     let columns = || (0..=FIELDS).filter(|&column| column != 1);
     let bad = columns().flat_map(|column| BAD.iter().map(move |&cell| (column, cell, BAD_ROW)));
-    let nine = columns().map(|column| (column, &b"999999999"[..], (FIELD, 1)));
+    let nine = columns().map(|column| {
+        let named = Answer::field(1, column.max(1) as u64);
+        (column, &b"999999999"[..], named)
+    });
     let fits = [(10, &b"100000000"[..], OK), (18, b"0", OK)];
     bad.chain(nine)
         .chain(fits)

@@ -1,7 +1,8 @@
-//! Replacements, one by one and in series beside the ledger [01 §4].
+//! Replacements, one by one and in series beside the ledger [01 §4, 02 §2].
 
+use crate::answers::{agree, item_of, items_of, label};
 use crate::boundary;
-use crate::lists::{name_of, row_count, ACCEPTED_ROWS};
+use crate::lists::{each_side, row_count, ACCEPTED_ROWS, EQUALITIES, ONE_OFF};
 use crate::run::{Found, Group, Kind, Score, Seen};
 use second::answer::*;
 use second::generate::*;
@@ -11,30 +12,24 @@ use second::whole::{whole, Settings};
 
 const NUMBERS: Group = Group {
     name: "numbers given back by replacements",
-    wanted: || {
-        [DONE, COUNT, ROOM, FIELD, TREE, PICKUP, DELAY, CARD, EDIT]
-            .map(|number| (number, 0))
-            .to_vec()
-    },
-    label: |item| name_of(item.0).to_string(),
+    wanted: || items_of(&[&[COUNT, ROOM, CARD], OF_SERIES].concat()),
+    label,
 };
 
-/// 0 for a replacement of a series that was done, 1 for one that was refused.
+/// Of lists and cards in range, with room.
+const OF_SERIES: &[u64] = &[DONE, EDIT, FIELD, TREE, RANGE, OWN_ZONE, BACKUP, DELAY];
+
 const IN_SERIES: Group = Group {
-    name: "replacements in series",
-    wanted: || vec![(0, 0), (1, 0)],
-    label: |item| if item.0 == 0 { "done" } else { "refused" }.to_string(),
+    name: "replacements in series beside the ledger",
+    wanted: || items_of(OF_SERIES),
+    label,
 };
 
 /// Of the lists that a series starts from.
 const ROWS: Group = Group { name: "rows of lists in series", ..ACCEPTED_ROWS };
 
 /// On cards in range that no calculation of the list gives.
-const ON_FOREIGN: Group = Group {
-    name: "replacements on foreign cards",
-    wanted: || [DONE, FIELD, TREE, PICKUP, DELAY, EDIT].map(|number| (number, 0)).to_vec(),
-    label: |item| name_of(item.0).to_string(),
-};
+const ON_FOREIGN: Group = Group { name: "replacements on foreign cards", ..IN_SERIES };
 
 const EFFECTS: [&str; 3] = ["stays", "changes", "refused"];
 
@@ -46,10 +41,16 @@ const BY_DEVICE: Group = Group {
     label: |item| format!("own {}, above {}:", EFFECTS[item.0 as usize], EFFECTS[item.1 as usize]),
 };
 
-pub const GROUPS: [Group; 5] = [NUMBERS, IN_SERIES, ROWS, ON_FOREIGN, BY_DEVICE];
+const SIDES: Group = Group { name: "replacements below, at and above equality", ..EQUALITIES };
 
-pub const KINDS: [Kind; 4] = [
+const ONE_OFF_REPLACED: Group = Group { name: "replacements refused one off equality", ..ONE_OFF };
+
+pub const GROUPS: [Group; 7] =
+    [NUMBERS, IN_SERIES, ROWS, ON_FOREIGN, BY_DEVICE, SIDES, ONE_OFF_REPLACED];
+
+pub const KINDS: [Kind; 5] = [
     Kind { name: "replacements on any list and card", cases: 40_000, case: one },
+    Kind { name: "replacements at equality", cases: 600, case: equality },
     Kind { name: "series beside the ledger", cases: 20_000, case: course },
     Kind { name: "long series beside the ledger", cases: 200, case: long_course },
     Kind { name: "series on foreign cards", cases: 5_000, case: foreign },
@@ -57,7 +58,9 @@ pub const KINDS: [Kind; 4] = [
 
 /// At least a third of the replacements in series must be refused.
 pub fn check_refused(score: &mut Score, seen: &Seen) {
-    let [done, refused] = [0, 1].map(|item| seen.times(&IN_SERIES, (item, 0)));
+    let times = |item| seen.times(&IN_SERIES, item);
+    let done = times((DONE, 0));
+    let refused = items_of(OF_SERIES).into_iter().map(times).sum::<u64>() - done;
     score.count(done <= 2 * refused, &format!("{refused} of {} in series refused", done + refused));
 }
 
@@ -74,16 +77,30 @@ pub fn same(lent: &Replacement, seen: &mut Seen) -> Result<Answer, String> {
     let (mut list2, mut card2) = (lent.list.clone(), lent.card.clone());
     let answer = boundary::replace(&mut list, &mut card, *place, row);
     let expected = replace(&mut list2, &mut card2, *place, row);
-    if answer != expected || list != list2 || card != card2 {
+    if !agree(answer, expected) || list != list2 || card != card2 {
         return Err(format!("{answer:?}, not {expected:?}, or the buffers differ: {lent:?}"));
     }
-    note(answer, seen);
+    note(&NUMBERS, &list, answer, seen);
     Ok(answer)
 }
 
-fn note(answer: Answer, seen: &mut Seen) {
+fn note(group: &Group, list: &[u64], answer: Answer, seen: &mut Seen) {
     seen.compared += 1;
-    seen.note(&NUMBERS, (answer.number, 0));
+    seen.note(group, item_of(list, answer));
+}
+
+/// The row that is moved replaced in the list at equality, on its own card.
+fn equality(count: u64, seed: u64, seen: &mut Seen) -> Found {
+    each_side(count, seed, [&SIDES, &ONE_OFF_REPLACED], seen, |lists, side, seen| {
+        let [rows, other] = [1, 0].map(|of| lists[of].as_chunks::<FIELDS>().0);
+        let moved = rows.iter().zip(other).position(|(row, other)| row != other);
+        let at = moved.expect("a row that is moved");
+        let mut card = lent_card(CARD_NUMBERS * rows.len(), seed);
+        whole(&lists[1], &mut card);
+        let row = lists[side][at * FIELDS..][..FIELDS].to_vec();
+        let change = Change { place: at as u64 + 1, row };
+        same(&Replacement { list: lists[1].clone(), card, change }, seen)
+    })
 }
 
 /// An accepted list, a card lent for it, and that card as the whole calculation left it.
@@ -119,11 +136,10 @@ fn beside_ledger(seed: u64, length: usize, seen: &mut Seen) -> Found {
         let (before, by_device) = (card.clone(), is_device_alone(&list, change));
         let answer = boundary::replace(&mut list, &mut card, change.place, &change.row);
         let expected = ledger.feed(change.place, &change.row);
-        if answer != expected {
+        if !agree(answer, expected) {
             return Err(format!("{answer:?}, not {expected:?}, at step {step} of series {seed}"));
         }
-        note(answer, seen);
-        seen.note(&IN_SERIES, (u64::from(answer != Answer::DONE), 0));
+        note(&IN_SERIES, &list, answer, seen);
         if by_device && change.row[1] != 0 {
             let effect = |row| effect_on(row, answer, &before, &card);
             seen.note(&BY_DEVICE, (effect(change.place), effect(change.row[1])));
@@ -177,13 +193,12 @@ fn foreign(_: u64, seed: u64, seen: &mut Seen) -> Found {
     for (step, change) in series(&list.clone(), 12, seed).iter().enumerate() {
         let answer = boundary::replace(&mut list, &mut card, change.place, &change.row);
         let expected = replace(&mut list2, &mut card2, change.place, &change.row);
-        if answer != expected || list != list2 || card != card2 {
+        if !agree(answer, expected) || list != list2 || card != card2 {
             return Err(format!(
                 "{answer:?}, not {expected:?}, or the buffers differ: step {step}, seed {seed}"
             ));
         }
-        note(answer, seen);
-        seen.note(&ON_FOREIGN, (answer.number, 0));
+        note(&ON_FOREIGN, &list, answer, seen);
     }
     Ok(())
 }

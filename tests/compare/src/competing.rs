@@ -1,18 +1,20 @@
-//! Faults two at a time, where section 4's order decides: one is put into an
-//! accepted list or a replacement that is done, then another that leaves the
-//! first in it.
+//! Faults two at a time, where section 4's order decides, RANGE, OWN ZONE and
+//! BACKUP standing where PICKUP stood [02 §2]: one is put into an accepted list
+//! or a replacement that is done, then another that leaves the first in it.
 
+use crate::answers::{name_of, NAMING};
+use crate::faults::{add_fault, open_to};
 use crate::run::{Found, Group, Item, Kind, Seen};
 use crate::{changes, lists};
 use second::answer::*;
-use second::generate::{lent_card, Change, Lent, Replacement, Rng};
-use second::row::{CARD_NUMBERS, FIELDS};
+use second::generate::{Change, Lent, Replacement, Rng};
+use second::row::FIELDS;
 
 /// The order for a replacement, stage by stage; for a whole calculation it is
 /// the same without EDIT and CARD. Each stage goes over the rows ascending; the
 /// numbers of the last one are tried in each row in their order.
 const ORDER: [&[u64]; 7] =
-    [&[COUNT], &[ROOM], &[EDIT], &[FIELD], &[TREE], &[CARD], &[PICKUP, DELAY]];
+    [&[COUNT], &[ROOM], &[EDIT], &[FIELD], &[TREE], &[CARD], &[RANGE, OWN_ZONE, BACKUP, DELAY]];
 
 const ALONG_THE_PATH: &[u64] = ORDER[ORDER.len() - 1];
 
@@ -20,10 +22,11 @@ const ALONG_THE_PATH: &[u64] = ORDER[ORDER.len() - 1];
 const OF_NO_ROW: [u64; 3] = [COUNT, ROOM, EDIT];
 
 /// Given by replacements only.
-const OF_REPLACEMENTS: [u64; 2] = [EDIT, CARD];
+const NOT_OF_LISTS: [u64; 2] = [EDIT, CARD];
 
-/// The number given, over the one that would be given without the added fault.
-pub const LIST_PAIRS: Group = Group {
+/// The number given, over the one that would be given without the added fault;
+/// of one stage, in an earlier row over a later one.
+const LIST_PAIRS: Group = Group {
     name: "competing refusals of lists",
     wanted: || {
         let of_lists = |&(over, under): &Item| of_lists(&[over, under]).len() == 2;
@@ -32,8 +35,19 @@ pub const LIST_PAIRS: Group = Group {
     label,
 };
 
-pub const REPLACEMENT_PAIRS: Group =
+const REPLACEMENT_PAIRS: Group =
     Group { name: "competing refusals of replacements", wanted: pairs, label };
+
+/// Of one stage, in one row.
+const LIST_PAIRS_IN_ROW: Group =
+    Group { name: "competing refusals in a row of a list", wanted: pairs_in_row, label };
+
+const REPLACEMENT_PAIRS_IN_ROW: Group =
+    Group { name: "competing refusals in a row of a replacement", wanted: pairs_in_row, label };
+
+/// Of different rows, and of one.
+pub const OF_LISTS: [Group; 2] = [LIST_PAIRS, LIST_PAIRS_IN_ROW];
+pub const OF_REPLACEMENTS: [Group; 2] = [REPLACEMENT_PAIRS, REPLACEMENT_PAIRS_IN_ROW];
 
 pub const LISTS: Kind = Kind { name: "lists at fault twice", cases: 4_000, case: list_twice };
 
@@ -41,12 +55,22 @@ pub const REPLACEMENTS: Kind =
     Kind { name: "replacements at fault twice", cases: 10_000, case: replacement_twice };
 
 fn label(item: Item) -> String {
-    format!("{} over {}", lists::name_of(item.0), lists::name_of(item.1))
+    format!("{} over {}", name_of(item.0), name_of(item.1))
 }
 
 fn pairs() -> Vec<Item> {
     let over = |&under: &u64| rivals(under).into_iter().map(move |over| (over, under));
     ORDER.concat().iter().flat_map(over).collect()
+}
+
+/// Of a stage's numbers each over those after it; and a number over itself where
+/// it names something in the row.
+fn pairs_in_row() -> Vec<Item> {
+    let after = |stage: &[u64]| {
+        let over = |at: usize| stage[at + 1..].iter().map(move |&under| (stage[at], under));
+        (0..stage.len()).flat_map(over).collect::<Vec<Item>>()
+    };
+    ORDER.into_iter().flat_map(after).chain(NAMING.map(|number| (number, number))).collect()
 }
 
 /// The faults that may be given over one of that number: those of the stages up
@@ -58,15 +82,13 @@ fn rivals(number: u64) -> Vec<u64> {
     rivals
 }
 
-/// Another answer than before was given over it. Of two numbers that are tried
-/// in each row, the first counts only where it was given in the same row.
-fn note(group: &Group, before: Answer, after: Answer, seen: &mut Seen) {
-    let stage = |number| ORDER.iter().position(|stage| stage.contains(&number));
-    let at = |number| ORDER.concat().iter().position(|&of| of == number);
-    let (over, under) = (after.number, before.number);
-    let first_in_a_row = stage(over) == stage(under) && at(over) < at(under);
-    if after != before && (!first_in_a_row || after.place == before.place) {
-        seen.note(group, (over, under));
+/// Another answer than before was given over it.
+fn note([pairs, in_row]: [Group; 2], before: Answer, after: Answer, seen: &mut Seen) {
+    let stage = |answer: Answer| ORDER.iter().position(|stage| stage.contains(&answer.number));
+    let is_in_row = stage(after) == stage(before) && after.place == before.place;
+    if after != before {
+        let group = if is_in_row { in_row } else { pairs };
+        seen.note(&group, (after.number, before.number));
     }
 }
 
@@ -75,54 +97,35 @@ fn list_twice(_: u64, seed: u64, seen: &mut Seen) -> Found {
     let (list, _, card) = changes::accepted(rng.any());
     let rows: Vec<u64> = (1..=(list.len() / FIELDS) as u64).collect();
     let mut lent = Lent { list, card };
-    let (first, row) = (rng.pick(&of_lists(&ORDER[1..].concat())), rng.pick(&rows));
+    let first = rng.pick(&of_lists(&ORDER[1..].concat()));
+    let Some(row) = up_to(&mut rng, &open_to(first, &rows, &lent), Answer::DONE) else {
+        return Ok(());
+    };
     add_fault(&mut rng, first, row, &mut lent);
     let before = lists::same(&lent, seen)?;
     for number in of_lists(&rivals(before.number)) {
         let mut worse = lent.clone();
-        let row = up_to(&mut rng, &rows, before);
-        add_fault(&mut rng, number, row, &mut worse);
-        note(&LIST_PAIRS, before, lists::same(&worse, seen)?, seen);
+        if let Some(row) = up_to(&mut rng, &open_to(number, &rows, &lent), before) {
+            add_fault(&mut rng, number, row, &mut worse);
+            note(OF_LISTS, before, lists::same(&worse, seen)?, seen);
+        }
     }
     Ok(())
 }
 
 fn of_lists(numbers: &[u64]) -> Vec<u64> {
-    numbers.iter().copied().filter(|number| !OF_REPLACEMENTS.contains(number)).collect()
+    numbers.iter().copied().filter(|number| !NOT_OF_LISTS.contains(number)).collect()
 }
 
-/// One of the rows up to the one that the refusal names, that one as often as not.
-fn up_to(rng: &mut Rng, rows: &[u64], before: Answer) -> u64 {
-    if before.place == 0 {
-        return rng.pick(rows);
+/// One of the rows up to the one that the answer names, if it names one, and that
+/// one as often as not; nothing where there is none.
+fn up_to(rng: &mut Rng, rows: &[u64], before: Answer) -> Option<u64> {
+    let is_up_to = |row: &u64| before.place == 0 || *row <= before.place;
+    let rows: Vec<u64> = rows.iter().copied().filter(is_up_to).collect();
+    if rows.contains(&before.place) && rng.chance(50) {
+        return Some(before.place);
     }
-    let earlier: Vec<u64> = rows.iter().copied().filter(|&row| row <= before.place).collect();
-    if earlier.is_empty() || rng.chance(50) {
-        return before.place;
-    }
-    rng.pick(&earlier)
-}
-
-/// Puts a fault of that number into the list or the card, at that row if it has
-/// one, and leaves what any other number's fault is put into.
-fn add_fault(rng: &mut Rng, number: u64, row: u64, lent: &mut Lent) {
-    const IN_RANGE: [usize; 12] = [3, 4, 5, 6, 7, 9, 10, 11, 13, 14, 15, 18];
-    let rows = lent.list.len() / FIELDS;
-    let at = row as usize - 1;
-    let mut set = |field: usize, value: u64| lent.list[at * FIELDS + field - 1] = value;
-    match number {
-        COUNT => lent.list.extend(lent_card(rng.between(1, 17) as usize, 1)),
-        ROOM => lent.card.truncate(CARD_NUMBERS * rows - 1),
-        FIELD => set(rng.pick(&IN_RANGE), u64::MAX),
-        TREE => set(2, row),
-        CARD => lent.card[at * CARD_NUMBERS] = 0,
-        PICKUP => set(8, 1),
-        DELAY => {
-            set(16, 1);
-            set(17, 0);
-        }
-        _ => unreachable!("a fault of lists and cards"),
-    }
+    (!rows.is_empty()).then(|| rng.pick(&rows))
 }
 
 /// A replacement by the list that it would make, and the row that it replaces.
@@ -181,16 +184,22 @@ fn replacement_twice(_: u64, seed: u64, seen: &mut Seen) -> Found {
     let path = path_of(&list, place);
     let old = list[(place as usize - 1) * FIELDS..][..FIELDS].to_vec();
     let mut made = Made { lent: Lent { list, card }, place, old, wrong: None };
-    let reached = |number| if ALONG_THE_PATH.contains(&number) { &path } else { &rows };
+    let reached = |number, made: &Made| {
+        let rows = if ALONG_THE_PATH.contains(&number) { &path } else { &rows };
+        open_to(number, rows, &made.lent)
+    };
     let first = rng.pick(&ORDER[1..].concat());
-    let row = rng.pick(reached(first));
+    let Some(row) = up_to(&mut rng, &reached(first, &made), Answer::DONE) else {
+        return Ok(());
+    };
     made.add_fault(&mut rng, first, row);
     let before = changes::same(&made.lend(), seen)?;
     for number in rivals(before.number) {
         let mut worse = made.clone();
-        let row = up_to(&mut rng, reached(number), before);
-        worse.add_fault(&mut rng, number, row);
-        note(&REPLACEMENT_PAIRS, before, changes::same(&worse.lend(), seen)?, seen);
+        if let Some(row) = up_to(&mut rng, &reached(number, &made), before) {
+            worse.add_fault(&mut rng, number, row);
+            note(OF_REPLACEMENTS, before, changes::same(&worse.lend(), seen)?, seen);
+        }
     }
     Ok(())
 }

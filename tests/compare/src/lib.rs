@@ -1,10 +1,13 @@
 //! The proved library behind safe functions, and its comparison with the
 //! second program.
 
+pub mod answers;
 pub mod boundary;
 pub mod bounded_texts;
+pub mod causes;
 pub mod changes;
 pub mod competing;
+pub mod faults;
 pub mod lists;
 pub mod run;
 pub mod singles;

@@ -1,5 +1,6 @@
-//! Whole calculations of lists [01 §4].
+//! Whole calculations of lists [01 §4, 02 §2].
 
+use crate::answers::{agree, item_of, items_of, label, name_of};
 use crate::boundary;
 use crate::run::{Found, Group, Item, Kind, Seen};
 use second::answer::*;
@@ -9,8 +10,8 @@ use second::whole::whole;
 
 pub const NUMBERS: Group = Group {
     name: "numbers given back",
-    wanted: || [DONE, COUNT, ROOM, FIELD, TREE, PICKUP, DELAY].map(|number| (number, 0)).to_vec(),
-    label: |item| name_of(item.0).to_string(),
+    wanted: || items_of(&[DONE, COUNT, ROOM, FIELD, TREE, RANGE, OWN_ZONE, BACKUP, DELAY]),
+    label,
 };
 
 pub const FIELDS_NAMED: Group = Group {
@@ -43,7 +44,18 @@ pub const EQUALITIES: Group = Group {
     },
 };
 
-pub const GROUPS: [Group; 5] = [NUMBERS, FIELDS_NAMED, ACCEPTED_ROWS, ACCEPTED_VOLTS, EQUALITIES];
+/// A condition by its place, and the number that refuses the list one off its equality.
+pub const ONE_OFF: Group = Group {
+    name: "refusals one off equality",
+    wanted: || {
+        let refusal = |(at, of): (u64, Condition)| of.refusal().map(|number| (at, number));
+        (0..).zip(CONDITIONS).filter_map(refusal).collect()
+    },
+    label: |item| format!("{} by {:?}", name_of(item.1), CONDITIONS[item.0 as usize]),
+};
+
+pub const GROUPS: [Group; 6] =
+    [NUMBERS, FIELDS_NAMED, ACCEPTED_ROWS, ACCEPTED_VOLTS, EQUALITIES, ONE_OFF];
 
 pub const KINDS: [Kind; 11] = [
     Kind { name: "chains", cases: 60_000, case: |_, seed, seen| shaped(Shape::Chain, seed, seen) },
@@ -67,14 +79,6 @@ pub const KINDS: [Kind; 11] = [
     Kind { name: "rooms", cases: 1_500, case: rooms },
 ];
 
-pub fn name_of(number: u64) -> &'static str {
-    const NAMES: [&str; 11] = [
-        "done", "TEXT", "COUNT", "ROOM", "FIELD", "TREE", "PICKUP", "DELAY", "STUDY", "CARD",
-        "EDIT",
-    ];
-    NAMES[number as usize]
-}
-
 /// Both programs on the same list and card. They must agree in number, place,
 /// field and every number of the card; a guard on each side of the lent card,
 /// the list, the card's numbers past the rows and a refused card must stand.
@@ -90,7 +94,7 @@ pub fn same(lent: &Lent, seen: &mut Seen) -> Result<Answer, String> {
     let written = if expected == Answer::DONE { CARD_NUMBERS * rows } else { 0 };
     let stand = guarded[..GUARD] == before[..GUARD]
         && guarded[GUARD + written..] == before[GUARD + written..];
-    if answer != expected || guarded[GUARD..end] != card || !stand || list != lent.list {
+    if !agree(answer, expected) || guarded[GUARD..end] != card || !stand || list != lent.list {
         return Err(format!("{answer:?}, not {expected:?}, or the buffers differ: {lent:?}"));
     }
     note(&lent.list, answer, seen);
@@ -106,7 +110,7 @@ pub fn row_count(list: &[u64]) -> Item {
 
 fn note(list: &[u64], answer: Answer, seen: &mut Seen) {
     seen.compared += 1;
-    seen.note(&NUMBERS, (answer.number, 0));
+    seen.note(&NUMBERS, item_of(list, answer));
     if answer.number == FIELD {
         seen.note(&FIELDS_NAMED, (answer.field, 0));
     }
@@ -149,12 +153,27 @@ fn bounds(count: u64, seed: u64, seen: &mut Seen) -> Found {
 }
 
 fn equality(count: u64, seed: u64, seen: &mut Seen) -> Found {
+    each_side(count, seed, [&EQUALITIES, &ONE_OFF], seen, |lists, side, seen| {
+        same(&with_room(lists[side].clone(), seed), seen)
+    })
+}
+
+/// Each condition's list at equality with its neighbours: compares the three one
+/// by one, and notes side and refusal.
+pub fn each_side(
+    count: u64,
+    seed: u64,
+    [sides, refusals]: [&Group; 2],
+    seen: &mut Seen,
+    compare: impl Fn(&[Vec<u64>; 3], usize, &mut Seen) -> Result<Answer, String>,
+) -> Found {
     let list = list_shaped(SHAPES[count as usize % 4], 1 + count % 12, seed);
     for (at, condition) in (0..).zip(CONDITIONS) {
         let Some(lists) = at_equality(&list, condition, seed) else { continue };
-        for (side, list) in (0..).zip(lists) {
-            ample(list, seed, seen)?;
-            seen.note(&EQUALITIES, (at, side));
+        for side in 0..lists.len() {
+            let answer = compare(&lists, side, seen)?;
+            seen.note(sides, (at, side as u64));
+            seen.note(refusals, (at, answer.number));
         }
     }
     Ok(())

@@ -4,7 +4,7 @@
 
 use compare::run::{Score, Seen};
 use compare::singles::{self, Part};
-use compare::{boundary, changes, competing, lists, studies, texts};
+use compare::{answers, boundary, causes, changes, competing, lists, studies, texts};
 use std::process::ExitCode;
 use std::time::{Instant, SystemTime, UNIX_EPOCH};
 
@@ -62,24 +62,29 @@ fn compare_all(seed: u64, Length { passes, all_singles }: Length) -> ExitCode {
     let (mut study, mut text, mut change) = (Seen::default(), Seen::default(), Seen::default());
     let [library, header] = boundary::versions();
     score.count(library == header, &format!("version {library}, the header's {header}"));
+    answers::check_header(&mut score);
     score.run(&lists::KINDS, seed, passes, &mut whole);
-    score.run(&[competing::LISTS], seed, passes, &mut whole);
+    score.run(&[causes::LISTS, competing::LISTS], seed, passes, &mut whole);
     let share = 100 * whole.accepted / whole.compared.max(1);
     let line = format!("{} lists, {} accepted, {share} percent", whole.compared, whole.accepted);
     score.count((30..=70).contains(&share), &line);
-    lists::GROUPS.iter().for_each(|group| score.check(group, &whole));
-    score.check(&competing::LIST_PAIRS, &whole);
+    score.check_all(&lists::GROUPS, &whole);
+    score.check(&causes::IN_LISTS, &whole);
+    score.check_all(&competing::OF_LISTS, &whole);
     score.run(&changes::KINDS, seed, passes, &mut change);
-    score.run(&[competing::REPLACEMENTS], seed, passes, &mut change);
-    changes::GROUPS.iter().for_each(|group| score.check(group, &change));
+    score.run(&[causes::REPLACEMENTS, competing::REPLACEMENTS], seed, passes, &mut change);
+    score.check_all(&changes::GROUPS, &change);
     changes::check_refused(&mut score, &change);
-    score.check(&competing::REPLACEMENT_PAIRS, &change);
+    score.check(&causes::IN_REPLACEMENTS, &change);
+    score.check_all(&competing::OF_REPLACEMENTS, &change);
     score.run(&studies::KINDS, seed, passes, &mut study);
-    studies::GROUPS.iter().for_each(|group| score.check(group, &study));
+    score.check_all(&studies::GROUPS, &study);
     score.run(&texts::KINDS, seed, passes, &mut text);
+    score.run(&causes::TEXTS, seed, passes, &mut text);
     let line = format!("{} texts, {} accepted", text.compared, text.accepted);
     score.count(text.compared >= LEAST_TEXTS, &line);
-    texts::GROUPS.iter().for_each(|group| score.check(group, &text));
+    score.check_all(&texts::GROUPS, &text);
+    score.check(&causes::IN_TEXTS, &text);
     compare_singles(if all_singles { singles::ALL } else { Part::of_seed(seed) }, &mut score);
     println!("compare: {} passed, {} failed", score.passed, score.failed);
     ExitCode::from(u8::from(score.failed > 0))

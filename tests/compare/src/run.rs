@@ -83,6 +83,10 @@ impl Score {
         }
     }
 
+    pub fn check_all(&mut self, groups: &[Group], seen: &Seen) {
+        groups.iter().for_each(|group| self.check(group, seen));
+    }
+
     /// Prints how often each item turned up; one that never did fails.
     pub fn check(&mut self, group: &Group, seen: &Seen) {
         let entry = |&item: &Item| format!("{} {}", (group.label)(item), seen.times(group, item));

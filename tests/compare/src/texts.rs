@@ -1,22 +1,27 @@
-//! Texts of lists and what is printed of them [01 §6].
+//! Texts of lists and what is printed of them [01 §6, 02 §2].
 
+use crate::answers::{agree, name_of, NAMING};
 use crate::boundary::{self, CARD_ROOM};
 use crate::bounded_texts;
-use crate::lists::name_of;
-use crate::run::{Found, Group, Item, Kind, Seen};
+use crate::run::{Found, Group, Kind, Seen};
 use second::answer::*;
 use second::generate::*;
 use second::text::{card, printed, Printed, MOST_BYTES};
 use std::cmp::Ordering;
 
-/// A number and whether it names a place: TEXT does so or not, by what is wrong.
+/// A number, and whether its place and its third number name anything: TEXT gives
+/// a line or none, by what is wrong.
 pub const NUMBERS: Group = Group {
     name: "numbers given of texts",
     wanted: || {
-        let rows = [FIELD, TREE, PICKUP, DELAY].map(|number| (number, 1));
-        [&[(DONE, 0), (TEXT, 0), (TEXT, 1), (COUNT, 0), (ROOM, 0)], &rows[..]].concat()
+        let rows = [TEXT, TREE, RANGE, OWN_ZONE, DELAY].map(|number| (number, 1));
+        let more = NAMING.map(|number| (number, 2));
+        [&[(DONE, 0), (TEXT, 0), (COUNT, 0), (ROOM, 0)], &rows[..], &more].concat()
     },
-    label: |item| format!("{}{}", name_of(item.0), ["", " at a place"][item.1 as usize]),
+    label: |item| {
+        let place = ["", " at a place", " at a place and more"][item.1 as usize];
+        format!("{}{place}", name_of(item.0))
+    },
 };
 
 /// A card or a refusal, and whether its room is one byte short or less, exact, or more.
@@ -33,7 +38,7 @@ pub const ROOMS: Group = Group {
 pub const PAIRS: Group = Group {
     name: "competing refusals of texts",
     wanted: || {
-        let under = [COUNT, FIELD, TREE, PICKUP, DELAY];
+        let under = [COUNT, FIELD, TREE, RANGE, OWN_ZONE, BACKUP, DELAY];
         let (line, size) = (under.map(|number| (1, number)), under.map(|number| (0, number)));
         [&line[..], &size, &[(0, TEXT)]].concat()
     },
@@ -57,27 +62,28 @@ pub const KINDS: [Kind; 9] = [
 /// Both programs on the same text: number, place, field and how many bytes, and
 /// these byte for byte; a guard on each side of the lent room, the text and the
 /// bytes past the print must stand.
-pub fn same(text: &[u8], room: usize, seen: &mut Seen) -> Result<Item, String> {
+pub fn same(text: &[u8], room: usize, seen: &mut Seen) -> Result<Answer, String> {
     const GUARD: usize = 16;
     let end = GUARD + room;
     let mark = (text.len() % 256) as u8;
     let before: Vec<u8> = (0..end + GUARD).map(|at| mark.wrapping_add(at as u8)).collect();
     let (lent, mut guarded) = (text.to_vec(), before.clone());
-    let given = boundary::card(&lent, &mut guarded[GUARD..end]);
+    let (given, written) = boundary::card(&lent, &mut guarded[GUARD..end]);
     let print = printed(text);
     note_room(&print, room, seen);
     let Printed { answer, bytes } = print.within(room);
     let wanted = [&before[..GUARD], &bytes, &before[GUARD + bytes.len()..]].concat();
-    if given != (answer, bytes.len() as u64) || guarded != wanted || lent != text {
+    let is_print = written == bytes.len() as u64 && guarded == wanted;
+    if !agree(given, answer) || !is_print || lent != text {
         let (bytes, text) = (String::from_utf8_lossy(&bytes), String::from_utf8_lossy(text));
         return Err(format!(
             "{given:?}, not {answer:?} and {bytes:?}, or the buffers differ: room {room}, {text:?}"
         ));
     }
     seen.compared += 1;
-    seen.note(&NUMBERS, (answer.number, answer.place.min(1)));
+    seen.note(&NUMBERS, (answer.number, answer.place.min(1) + answer.field.min(1)));
     seen.accepted += u64::from(answer == Answer::DONE);
-    Ok((answer.number, answer.place))
+    Ok(answer)
 }
 
 fn note_room(print: &Printed, room: usize, seen: &mut Seen) {
@@ -145,8 +151,8 @@ fn twice(_: u64, seed: u64, seen: &mut Seen) -> Found {
     let [one, two, three] = [text, bad_line, too_long].map(|text| same(&text, CARD_ROOM, seen));
     let [first, line, size] = [one?, two?, three?];
     for (over, under) in [(line, first), (size, first), (size, line)] {
-        if under.0 != DONE && over != under {
-            seen.note(&PAIRS, (over.1.min(1), under.0));
+        if under != Answer::DONE && over != under {
+            seen.note(&PAIRS, (over.place.min(1), under.number));
         }
     }
     Ok(())

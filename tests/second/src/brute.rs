@@ -1,33 +1,61 @@
 //! Settings found by trying every combination, for lists with few available
-//! values; it tests the oracle itself [01 §3, §4].
+//! values; it tests the oracle itself [01 §3, §4, 02 §2].
 
-use crate::answer::{Answer, DELAY, PICKUP};
+use crate::answer::{Answer, DELAY, OWN_ZONE, RANGE};
 use crate::conditions::*;
 use crate::row::Row;
 use crate::whole::{fed_rows, Settings};
 
-/// Number and place, and where done the card, of a list that passes FIELD and TREE.
+/// The refusal, or where done the card, of a list that passes FIELD and TREE.
 ///
 /// The row refused is the first whose conditions, with those of all rows before
 /// it, no combination meets.
 pub fn search(rows: &[Row]) -> Result<Vec<Settings>, Answer> {
-    for end in 1..=rows.len() {
-        let first = &rows[..end];
-        let tried = combinations(first);
-        let meet_pickups = |card: &Vec<Settings>| meet_in_all_rows(first, card, pickup_holds);
-        let meet_delays = |card: &Vec<Settings>| meet_in_all_rows(first, card, delay_holds);
-        if !tried.iter().any(meet_pickups) {
-            return Err(Answer::at(PICKUP, end as u64));
+    let mut least = Vec::new();
+    for (at, row) in rows.iter().enumerate() {
+        let first = &rows[..=at];
+        let mut cards = combinations(first);
+        cards.retain(|card| meet_in_all_rows(first, card, pickup_holds));
+        let cause = cause(row, &fed_rows(first, &least, row.row));
+        assert_eq!(cause.is_some(), cards.is_empty(), "the three causes together: {first:?}");
+        if let Some(refusal) = cause {
+            return Err(refusal);
         }
-        if !tried.iter().any(|card| meet_pickups(card) && meet_delays(card)) {
-            return Err(Answer::at(DELAY, end as u64));
+        cards.retain(|card| meet_in_all_rows(first, card, delay_holds));
+        if cards.is_empty() {
+            return Err(Answer::at(DELAY, row.row));
         }
-        if end == rows.len() {
-            let good = tried.into_iter().filter(|card| meet_pickups(card) && meet_delays(card));
-            return Ok(least_card(&good.collect::<Vec<_>>()));
-        }
+        least = least_card(&cards);
     }
-    unreachable!("a list has a row")
+    Ok(least)
+}
+
+/// Why no available pickup meets P1 to P4 above the fed rows, each cause by all
+/// the pickups that meet P1 and P2 and not by the least; nothing where one does.
+pub fn cause(row: &Row, fed: &[Fed]) -> Option<Answer> {
+    let clear: Vec<u64> = available(row).filter(|&pickup| is_clear(row, pickup, fed)).collect();
+    if clear.is_empty() {
+        return Some(Answer::at(RANGE, row.row));
+    }
+    if clear.iter().all(|&pickup| !sees_own_zone(row, pickup).hold()) {
+        return Some(Answer::at(OWN_ZONE, row.row));
+    }
+    let unseen = |below: &&Fed| clear.iter().all(|&pickup| !is_backed_up(row, pickup, below));
+    fed.iter().find(unseen).map(|below| Answer::backup(row.row, below.row.row))
+}
+
+/// Whether some available pickup meets P1 to P4 above the fed rows.
+pub fn some_pickup_fits(row: &Row, fed: &[Fed]) -> bool {
+    available(row).any(|pickup| pickup_holds(row, &Settings { pickup, delay: 0, cutoff: 0 }, fed))
+}
+
+fn is_clear(row: &Row, pickup: u64, fed: &[Fed]) -> bool {
+    returns_after_self_start(row, pickup).hold()
+        && stays_clear_of_fed_rows(row, pickup, fed).all(|sides| sides.hold())
+}
+
+fn is_backed_up(row: &Row, pickup: u64, below: &Fed) -> bool {
+    backs_up(row, pickup, &below.row).is_none_or(|sides| sides.hold())
 }
 
 /// The one card that none goes below in any row.
@@ -46,10 +74,9 @@ fn meet_in_all_rows(rows: &[Row], card: &[Settings], condition: Condition) -> bo
 }
 
 fn pickup_holds(row: &Row, set: &Settings, fed: &[Fed]) -> bool {
-    returns_after_self_start(row, set.pickup).hold()
-        && stays_clear_of_fed_rows(row, set.pickup, fed).all(|sides| sides.hold())
+    is_clear(row, set.pickup, fed)
         && sees_own_zone(row, set.pickup).hold()
-        && backs_up_fed_rows(row, set.pickup, fed).all(|sides| sides.hold())
+        && fed.iter().all(|below| is_backed_up(row, set.pickup, below))
 }
 
 fn delay_holds(row: &Row, set: &Settings, fed: &[Fed]) -> bool {

@@ -61,14 +61,10 @@ pub fn sees_own_zone(row: &Row, pickup: u64) -> Sides {
     Sides { greater: times([10, row.far]), lesser: times([15, pickup]) }
 }
 
-/// P4, once for every fed row with backed 1 [01 §3].
-pub fn backs_up_fed_rows<'a>(
-    row: &'a Row,
-    pickup: u64,
-    fed: &'a [Fed],
-) -> impl Iterator<Item = Sides> + 'a {
-    fed.iter().filter(|below| below.row.backed == 1).map(move |below| Sides {
-        greater: times([10, below.row.far, below.row.volts]),
+/// P4 for a fed row; nothing where it has backed 0 [01 §3].
+pub fn backs_up(row: &Row, pickup: u64, fed: &Row) -> Option<Sides> {
+    (fed.backed == 1).then(|| Sides {
+        greater: times([10, fed.far, fed.volts]),
         lesser: times([12, pickup, row.volts]),
     })
 }

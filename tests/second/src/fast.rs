@@ -1,10 +1,10 @@
 //! The whole calculation in one pass over the rows, in u64, as the baseline
-//! for speed [01 §4]. Each finished row adds to what its feeder must heed.
+//! for speed [01 §4, 02 §2]. Each finished row adds to what its feeder must heed.
 //!
 //! Past the field tests 11 times the load of 255 rows and the excess of one
 //! stays below 2^57, and by P1 a pickup is above its row's work.
 
-use crate::answer::{Answer, DELAY, PICKUP};
+use crate::answer::{Answer, DELAY, OWN_ZONE, RANGE};
 use crate::conditions::step_between;
 use crate::row::*;
 
@@ -36,8 +36,9 @@ pub fn whole(list: &[u64], card: &mut [u64]) -> Answer {
     let mut settings = Vec::with_capacity(count);
     for (at, numbers) in rows.iter().enumerate() {
         let row = Row::read(numbers);
-        let Some(pickup) = least_pickup(&row, &below[at + 1]) else {
-            return Answer::at(PICKUP, row.row);
+        let pickup = match least_pickup(&row, &below[at + 1]) {
+            Ok(pickup) => pickup,
+            Err(least) => return refusal(rows, &row, least),
         };
         let Some(delay) = least_delay(&row, &below[at + 1]) else {
             return Answer::at(DELAY, row.row);
@@ -90,13 +91,32 @@ fn heed(below: &mut Below, feeder: &Row, row: &Row, pickup: u64, delay: u64) {
     below.delay = below.delay.max(delay + step_between(feeder, row));
 }
 
-/// P1 to P4; for the fed row of greatest excess P2 asks most.
-fn least_pickup(row: &Row, below: &Below) -> Option<u64> {
+/// P1 to P4, or else the least pickup for P1 and P2, if any; for the fed row of
+/// greatest excess P2 asks most.
+fn least_pickup(row: &Row, below: &Below) -> Result<u64, Option<u64>> {
     let own = (11 * row.selfstart * row.work).div_ceil(10 * row.return_factor);
     let fed = (11 * (below.load + below.excess)).div_ceil(10 * row.volts);
-    let pickup = least_available(row, own.max(fed))?;
+    let pickup = least_available(row, own.max(fed)).ok_or(None)?;
     let seen = 10 * row.far >= 15 * pickup && 10 * below.reach >= 12 * pickup * row.volts;
-    seen.then_some(pickup)
+    seen.then_some(pickup).ok_or(Some(pickup))
+}
+
+/// Why the least pickup for P1 and P2 does not fit; the fed rows are gone
+/// through again only here.
+fn refusal(rows: &[[u64; FIELDS]], row: &Row, least: Option<u64>) -> Answer {
+    let Some(pickup) = least else {
+        return Answer::at(RANGE, row.row);
+    };
+    if 10 * row.far < 15 * pickup {
+        return Answer::at(OWN_ZONE, row.row);
+    }
+    let unseen = |fed: &Row| {
+        fed.feeds_from == row.row
+            && fed.backed == 1
+            && 10 * fed.far * fed.volts < 12 * pickup * row.volts
+    };
+    let fed = rows.iter().map(Row::read).find(unseen).expect("the row of least reach");
+    Answer::backup(row.row, fed.row)
 }
 
 /// D1 and D2.

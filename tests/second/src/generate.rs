@@ -1,5 +1,6 @@
 //! Cases for comparison, each fixed by its seed.
 
+mod causes;
 mod damage;
 mod edges;
 mod lists;
@@ -7,12 +8,26 @@ mod replacements;
 mod texts;
 mod tiny;
 
+pub use causes::{refused_for, Cause, Refused, CAUSES};
 pub use damage::{corners, damaged, field_bounds, lent_card, Lent};
 pub use edges::{at_equality, Condition, CONDITIONS};
-pub use lists::{list, list_shaped, Shape, SHAPES};
+pub use lists::{list, list_shaped, zone_bound, Shape, SHAPES};
 pub use replacements::{change, replacement, series, Change, Replacement};
 pub use texts::{byte_damages, damaged_text, sized_text, text};
 pub use tiny::tiny;
+
+use crate::row::{Row, CARD_NUMBERS, FIELDS};
+use crate::whole::{whole, Answer, Settings};
+
+/// Rows and settings of a list that is accepted.
+fn accepted(list: &[u64]) -> Option<(Vec<Row>, Vec<Settings>)> {
+    let mut card = vec![0; CARD_NUMBERS * list.len() / FIELDS];
+    if whole(list, &mut card) != Answer::DONE {
+        return None;
+    }
+    let settings = card.as_chunks().0.iter().map(Settings::read);
+    Some((list.as_chunks().0.iter().map(Row::read).collect(), settings.collect()))
+}
 
 /// Splitmix64.
 pub struct Rng(u64);

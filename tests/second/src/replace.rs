@@ -30,7 +30,7 @@ fn settle_path(
     while next != 0 {
         let at = next as usize - 1;
         let fed = fed_rows(&rows, &settings, next);
-        settings[at] = settle(&rows[at], &fed).map_err(|number| Answer::at(number, next))?;
+        settings[at] = settle(&rows[at], &fed)?;
         next = rows[at].feeds_from;
     }
     Ok((made, settings))

@@ -1,11 +1,11 @@
-//! The whole calculation [01 §4].
+//! The whole calculation [01 §4, 02 §2].
 //!
 //! P1, P2, D2, the floor and the cutoff's clearance stay true when the value
 //! rises, P3, P4 and the ceiling when it falls. So the least value for the
 //! first group is the one to test against the second.
 
 pub use crate::answer::Answer;
-use crate::answer::{DELAY, PICKUP};
+use crate::answer::{DELAY, OWN_ZONE, RANGE};
 use crate::conditions::*;
 use crate::row::{count_and_room, read_list, Row, CARD_NUMBERS, MOST_DELAY};
 
@@ -45,8 +45,7 @@ fn settle_list(list: &[u64], card_length: usize) -> Result<Vec<Settings>, Answer
     let mut settings = Vec::new();
     for row in &rows {
         let fed = fed_rows(&rows, &settings, row.row);
-        let set = settle(row, &fed).map_err(|number| Answer::at(number, row.row))?;
-        settings.push(set);
+        settings.push(settle(row, &fed)?);
     }
     Ok(settings)
 }
@@ -67,23 +66,29 @@ pub fn fed_rows(rows: &[Row], settings: &[Settings], place: u64) -> Vec<Fed> {
         .collect()
 }
 
-/// The least settings of one row above the given fed rows, or PICKUP or DELAY.
-pub fn settle(row: &Row, fed: &[Fed]) -> Result<Settings, u64> {
-    let pickup = least_pickup(row, fed).ok_or(PICKUP)?;
-    let delay = least_delay(row, fed).ok_or(DELAY)?;
+/// The least settings of one row above the given fed rows, ascending, or why
+/// there are none.
+pub fn settle(row: &Row, fed: &[Fed]) -> Result<Settings, Answer> {
+    let pickup = least_pickup(row, fed)?;
+    let delay = least_delay(row, fed).ok_or(Answer::at(DELAY, row.row))?;
     let cutoff = fitted_cutoff(row).unwrap_or(0);
     Ok(Settings { pickup, delay, cutoff })
 }
 
-fn least_pickup(row: &Row, fed: &[Fed]) -> Option<u64> {
+fn least_pickup(row: &Row, fed: &[Fed]) -> Result<u64, Answer> {
     let least = least_available(row, |pickup| {
         returns_after_self_start(row, pickup).hold()
             && stays_clear_of_fed_rows(row, pickup, fed).all(|sides| sides.hold())
     });
-    least.filter(|&pickup| {
-        sees_own_zone(row, pickup).hold()
-            && backs_up_fed_rows(row, pickup, fed).all(|sides| sides.hold())
-    })
+    let pickup = least.ok_or(Answer::at(RANGE, row.row))?;
+    if !sees_own_zone(row, pickup).hold() {
+        return Err(Answer::at(OWN_ZONE, row.row));
+    }
+    let fails = |below: &&Fed| backs_up(row, pickup, &below.row).is_some_and(|s| !s.hold());
+    match fed.iter().find(fails) {
+        Some(below) => Err(Answer::backup(row.row, below.row.row)),
+        None => Ok(pickup),
+    }
 }
 
 fn least_delay(row: &Row, fed: &[Fed]) -> Option<u64> {

@@ -1,12 +1,12 @@
 //! The oracle against every combination, the linear version and the ledger,
 //! over generated cases; each failure prints its seed.
 
-use second::answer::{Answer, DELAY, DONE, PICKUP, STUDY};
+use second::answer::{Answer, BACKUP, DELAY, DONE, OWN_ZONE, RANGE, STUDY};
 use second::generate::*;
 use second::replace::{replace, Ledger};
 use second::row::{Row, CARD_NUMBERS, FIELDS, MOST_CURRENT};
 use second::study::{study, Reading, Unit};
-use second::whole::whole;
+use second::whole::{fed_rows, settle, whole, Settings};
 use second::{brute, fast};
 use std::collections::BTreeMap;
 
@@ -26,12 +26,16 @@ fn lent(list: Vec<u64>) -> Lent {
     Lent { list, card }
 }
 
+fn rows_of(list: &[u64]) -> Vec<Row> {
+    list.as_chunks::<FIELDS>().0.iter().map(Row::read).collect()
+}
+
 #[test]
 fn whole_finds_what_trying_all_finds() {
     let mut seen = BTreeMap::new();
     for seed in 0..1_500 {
         let list = tiny(seed);
-        let rows: Vec<Row> = list.as_chunks::<FIELDS>().0.iter().map(Row::read).collect();
+        let rows = rows_of(&list);
         let mut card = vec![0; CARD_NUMBERS * rows.len()];
         let answer = whole(&list, &mut card);
         match brute::search(&rows) {
@@ -41,13 +45,38 @@ fn whole_finds_what_trying_all_finds() {
             }
             Err(refusal) => assert_eq!(answer, refusal, "seed {seed}"),
         }
-        *seen.entry((answer.number, answer.place)).or_insert(0) += 1;
+        *seen.entry((answer.number, answer.place, answer.field)).or_insert(0) += 1;
     }
-    println!("tiny lists by (number, place): {seen:?}");
-    for row in 1..=3 {
-        assert!(seen[&(PICKUP, row)] > 10 && seen[&(DELAY, row)] > 10);
+    println!("tiny lists by (number, place, field): {seen:?}");
+    let in_each_row = [RANGE, OWN_ZONE, DELAY];
+    let of_rows = in_each_row.iter().flat_map(|&number| (1..=3).map(move |row| (number, row, 0)));
+    let backups = [(BACKUP, 2, 1), (BACKUP, 3, 1), (BACKUP, 3, 2)];
+    assert!(of_rows.chain(backups).all(|answer| seen[&answer] > 10));
+    assert!(seen[&(DONE, 0, 0)] > 400);
+}
+
+/// Above fed rows with any settings, as a replacement finds them on a card: the
+/// cause judged by the least pickup for P1 and P2 is that of all of these, and
+/// there is one exactly where no available pickup fits [02 §2].
+#[test]
+fn cause_by_the_least_pickup_is_that_of_every_one() {
+    let mut seen = BTreeMap::new();
+    for seed in 0..4_000 {
+        let rows = rows_of(&tiny(seed));
+        let mut rng = Rng::new(seed);
+        let any = |_: &Row| Settings { pickup: rng.between(1, 40), delay: 0, cutoff: 0 };
+        let settings: Vec<Settings> = rows.iter().map(any).collect();
+        for row in &rows {
+            let fed = fed_rows(&rows, &settings, row.row);
+            let refusal = settle(row, &fed).err().filter(|answer| answer.number != DELAY);
+            assert_eq!(refusal, brute::cause(row, &fed), "seed {seed}");
+            assert_eq!(refusal.is_none(), brute::some_pickup_fits(row, &fed), "seed {seed}");
+            *seen.entry(refusal.map(|answer| (answer.number, answer.field))).or_insert(0) += 1;
+        }
     }
-    assert!(seen[&(DONE, 0)] > 400);
+    println!("rows above any settings by (number, field): {seen:?}");
+    let causes = [(RANGE, 0), (OWN_ZONE, 0), (BACKUP, 1), (BACKUP, 2)];
+    assert!(causes.iter().all(|&cause| seen[&Some(cause)] > 50) && seen[&None] > 1_000);
 }
 
 #[test]
@@ -78,7 +107,8 @@ fn linear_version_agrees_at_corners() {
         *seen.entry(answer.number).or_insert(0) += 1;
     }
     println!("lists at corners by number: {seen:?}");
-    assert!(seen.keys().copied().eq([DONE, PICKUP, DELAY]) && seen[&DONE] > 100);
+    let numbers = [DONE, DELAY, RANGE, OWN_ZONE, BACKUP];
+    assert!(seen.keys().copied().eq(numbers) && seen[&DONE] > 100);
 }
 
 #[test]
@@ -92,13 +122,30 @@ fn each_condition_is_met_at_equality() {
             assert_eq!(answers[1].0, Answer::DONE, "{condition:?}, seed {seed}");
             let differs = answers[0] != answers[1] || answers[2] != answers[1];
             assert!(differs, "{condition:?}, seed {seed}");
-            let is_step = matches!(condition, Condition::D2(..));
-            assert!(!is_step || answers[2].0.number == DELAY, "{condition:?}, seed {seed}");
+            let mut given = answers.iter().map(|(answer, _)| answer.number);
+            let refused = condition.refusal().is_none_or(|number| given.any(|of| of == number));
+            assert!(refused, "{condition:?}, seed {seed}");
             *found.entry(format!("{condition:?}")).or_insert(0) += 1;
         }
     }
     println!("lists at equality: {found:?}");
     assert!(found.len() == CONDITIONS.len() && found.values().all(|&count| count > 10));
+}
+
+#[test]
+fn each_cause_is_given_as_made() {
+    let mut found = BTreeMap::new();
+    for seed in 0..400 {
+        let list = list_shaped(SHAPES[seed as usize % 4], 1 + seed % 12, seed);
+        for cause in &CAUSES {
+            let Some(refused) = refused_for(&list, cause, seed) else { continue };
+            let (answer, _) = both(&lent(refused.list), seed);
+            assert_eq!(answer, refused.answer, "{}, seed {seed}", cause.name);
+            *found.entry(cause.name).or_insert(0) += 1;
+        }
+    }
+    println!("lists by cause: {found:?}");
+    assert!(found.len() == CAUSES.len() && found.values().all(|&count| count > 20));
 }
 
 #[test]
@@ -141,6 +188,7 @@ fn replacements_agree_with_the_ledger() {
     }
     let total: u64 = seen.values().sum();
     println!("replacements in series by number: {seen:?}");
+    assert!([RANGE, OWN_ZONE, BACKUP].iter().all(|number| seen[number] > 50));
     let refused = total - seen[&DONE];
     assert!(3 * refused >= total && 5 * refused <= 4 * total);
 }

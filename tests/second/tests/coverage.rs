@@ -1,9 +1,7 @@
 //! Every number, and every field of FIELD, turns up in the generated cases;
 //! ordinary lists are accepted about half the time.
 
-use second::answer::{
-    Answer, CARD, COUNT, DELAY, DONE, EDIT, FIELD, PICKUP, ROOM, STUDY, TEXT, TREE,
-};
+use second::answer::*;
 use second::generate::*;
 use second::replace::replace;
 use second::row::{CARD_NUMBERS, FIELDS};
@@ -20,6 +18,14 @@ fn answer_for(list: &[u64]) -> Answer {
 
 fn count(seen: &mut Seen, number: u64) {
     *seen.entry(number).or_insert(0) += 1;
+}
+
+/// The third number is the field or, for BACKUP, the fed row, and 0 otherwise.
+fn note_field(fields: &mut Seen, answer: Answer) {
+    assert_eq!(answer.field != 0, [FIELD, BACKUP].contains(&answer.number), "{answer:?}");
+    if answer.number == FIELD {
+        count(fields, answer.field);
+    }
 }
 
 fn assert_seen(seen: &Seen, numbers: &[u64]) {
@@ -39,8 +45,8 @@ fn ordinary_lists_are_accepted_about_half_the_time() {
 fn whole_calculations_give_every_number_and_field() {
     let (mut seen, mut fields) = (Seen::new(), Seen::new());
     let mut note = |answer: Answer| {
+        note_field(&mut fields, answer);
         count(&mut seen, answer.number);
-        count(&mut fields, answer.field);
     };
     for seed in 0..1_000 {
         let Lent { list: damaged, mut card } = damaged(seed);
@@ -49,8 +55,8 @@ fn whole_calculations_give_every_number_and_field() {
     }
     field_bounds(&list(3), 1).iter().for_each(|list| note(answer_for(list)));
     println!("whole calculations by number: {seen:?}, by field: {fields:?}");
-    assert_seen(&seen, &[DONE, COUNT, ROOM, FIELD, TREE, PICKUP, DELAY]);
-    assert_seen(&fields, &(0..=FIELDS as u64).collect::<Vec<_>>());
+    assert_seen(&seen, &[DONE, COUNT, ROOM, FIELD, TREE, DELAY, RANGE, OWN_ZONE, BACKUP]);
+    assert_seen(&fields, &(1..=FIELDS as u64).collect::<Vec<_>>());
 }
 
 #[test]
@@ -59,11 +65,12 @@ fn replacements_give_every_number_and_field() {
     for seed in 0..6_000 {
         let Replacement { mut list, mut card, change } = replacement(seed);
         let answer = replace(&mut list, &mut card, change.place, &change.row);
+        note_field(&mut fields, answer);
         count(&mut seen, answer.number);
-        count(&mut fields, answer.field);
     }
     println!("replacements by number: {seen:?}, by field: {fields:?}");
-    assert_seen(&seen, &[DONE, COUNT, ROOM, FIELD, TREE, PICKUP, DELAY, CARD, EDIT]);
+    let of_rows = [DELAY, CARD, EDIT, RANGE, OWN_ZONE, BACKUP];
+    assert_seen(&seen, &[&[DONE, COUNT, ROOM, FIELD, TREE], &of_rows[..]].concat());
     assert!((3..=FIELDS as u64).all(|field| fields.contains_key(&field)));
 }
 
@@ -114,7 +121,7 @@ fn texts_give_every_number_of_theirs() {
         count(&mut seen, printed_number(&text(&damaged(seed).list, seed)));
     }
     println!("texts by number: {seen:?}");
-    assert_seen(&seen, &[DONE, TEXT, COUNT, FIELD, TREE, PICKUP, DELAY]);
+    assert_seen(&seen, &[DONE, TEXT, COUNT, FIELD, TREE, DELAY, RANGE, OWN_ZONE, BACKUP]);
 }
 
 #[test]

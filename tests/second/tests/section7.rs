@@ -1,6 +1,7 @@
 //! The numbers on each side of section 7, and its traps; the step of [02 §5].
+//! Its two PICKUP cases give OWN ZONE [02 §2].
 
-use second::answer::{Answer, DELAY, PICKUP};
+use second::answer::{Answer, DELAY, OWN_ZONE};
 use second::conditions::{stays_clear_of_fed_rows, Fed};
 use second::fast;
 use second::replace::{replace, Ledger};
@@ -58,7 +59,7 @@ fn list_of_section_6() {
 #[test]
 fn far_on_each_side() {
     assert_eq!(carded(&with(2, FAR, 540_000)), (Answer::DONE, CARD.to_vec()));
-    assert_eq!(carded(&with(2, FAR, 539_999)), refused(PICKUP, 2));
+    assert_eq!(carded(&with(2, FAR, 539_999)), refused(OWN_ZONE, 2));
 }
 
 #[test]
@@ -120,10 +121,10 @@ fn row_1_work_replaced() {
 fn row_1_far_replaced() {
     let (mut list, mut card) = (LIST, CARD);
     let row = &with(1, FAR, 431_000)[..FIELDS];
-    assert_eq!(replace(&mut list, &mut card, 1, row), Answer::at(PICKUP, 1));
+    assert_eq!(replace(&mut list, &mut card, 1, row), Answer::at(OWN_ZONE, 1));
     assert_eq!((list, card), (LIST, CARD));
     let mut ledger = Ledger::new(&LIST);
-    assert_eq!(ledger.feed(1, row), Answer::at(PICKUP, 1));
+    assert_eq!(ledger.feed(1, row), Answer::at(OWN_ZONE, 1));
     assert_eq!(ledger.list(), LIST);
 }
 
@@ -134,7 +135,7 @@ fn climb_goes_on_after_far_changed() {
     let mut card = vec![0; 6];
     assert_eq!(whole(&list, &mut card), Answer::DONE);
     let far = |far| with(1, FAR, far)[..FIELDS].to_vec();
-    assert_eq!(replace(&mut list, &mut card, 1, &far(551_999)), Answer::at(PICKUP, 2));
+    assert_eq!(replace(&mut list, &mut card, 1, &far(551_999)), Answer::backup(2, 1));
     assert_eq!(replace(&mut list, &mut card, 1, &far(552_000)), Answer::DONE);
 }
 

@@ -1,6 +1,6 @@
 //! The table of section 2 written out again, and the order of section 4.
 
-use second::answer::{Answer, CARD, COUNT, EDIT, PICKUP, ROOM, TREE};
+use second::answer::{Answer, CARD, COUNT, EDIT, OWN_ZONE, ROOM, TREE};
 use second::replace::replace;
 use second::row::{numbers_of, Row, FIELDS};
 use second::whole::whole;
@@ -128,7 +128,7 @@ fn replacements_in_order() {
     assert_eq!(attempt(&with(&[(1, 3, 0)]), &bad_card, 2, &same), Answer::field(1, 3));
     assert_eq!(attempt(&with(&[(1, 2, 0)]), &bad_card, 2, &same), Answer::at(TREE, 1));
     assert_eq!(attempt(&list(), &bad_card, 2, &row(8, 1)), Answer::at(CARD, 1));
-    assert_eq!(attempt(&list(), &good, 2, &row(8, 1)), Answer::at(PICKUP, 2));
+    assert_eq!(attempt(&list(), &good, 2, &row(8, 1)), Answer::at(OWN_ZONE, 2));
 }
 
 /// Each card number at its bounds and past them, the replaced row's too.
@@ -156,7 +156,7 @@ fn replacement_reads_the_card_as_found() {
     let mut made = list();
     assert_eq!(
         replace(&mut made, &mut card, 2, &list()[FIELDS..2 * FIELDS]),
-        Answer::at(PICKUP, 3)
+        Answer::at(OWN_ZONE, 3)
     );
     let mut rows: Vec<Row> = list().as_chunks::<FIELDS>().0.iter().map(Row::read).collect();
     rows[2].far = 100_000;

@@ -86,7 +86,7 @@ fn refused_texts() {
     assert_eq!(refusal(&TEXT.replace(",180000,", ",1800000000,")), "1,2,0");
     assert_eq!(refusal(&TEXT.replace(",180000,", ",180000000,")), "4,1,5");
     assert_eq!(refusal(&TEXT.replace("1,F1,2", "1,F1,0")), "5,1,0");
-    assert_eq!(refusal(&TEXT.replace("1500000", "539999")), "6,2,0");
+    assert_eq!(refusal(&TEXT.replace("1500000", "539999")), "12,2,0");
     assert_eq!(refusal(&TEXT.replace(",3000,0", ",2199,0")), "7,2,0");
 }
 

@@ -1,10 +1,11 @@
-//! Lists in which one condition stands exactly at equality [01 §3], each with
-//! its neighbours on both sides.
+//! Lists in which one condition stands exactly at equality [01 §3, 02 §2], each
+//! with its neighbours on both sides.
 
-use super::Rng;
+use super::{accepted, Rng};
+use crate::answer::{BACKUP, DELAY, OWN_ZONE, RANGE};
 use crate::conditions::*;
 use crate::row::*;
-use crate::whole::{fed_rows, whole, Answer, Settings};
+use crate::whole::{fed_rows, Settings};
 
 #[derive(Clone, Copy, Debug, PartialEq, Eq)]
 pub enum Condition {
@@ -12,6 +13,10 @@ pub enum Condition {
     P2,
     P3,
     P4,
+    /// P1 at the greatest available pickup.
+    RangeP1,
+    /// P2 at the greatest available pickup.
+    RangeP2,
     Floor,
     MotorDelay,
     Ceiling,
@@ -24,11 +29,27 @@ pub enum Condition {
 
 use Condition::*;
 
-pub const CONDITIONS: [Condition; 19] = [
+impl Condition {
+    /// What the list is refused with one off equality, on one side of it;
+    /// nothing for a condition that other settings can meet there.
+    pub fn refusal(self) -> Option<u64> {
+        match self {
+            RangeP1 | RangeP2 => Some(RANGE),
+            P3 => Some(OWN_ZONE),
+            P4 => Some(BACKUP),
+            MotorDelay | Ceiling | D2(..) => Some(DELAY),
+            P1 | P2 | Floor | CutoffClear | CutoffNearLine | CutoffNearOther => None,
+        }
+    }
+}
+
+pub const CONDITIONS: [Condition; 21] = [
     P1,
     P2,
     P3,
     P4,
+    RangeP1,
+    RangeP2,
     Floor,
     MotorDelay,
     Ceiling,
@@ -47,6 +68,9 @@ pub const CONDITIONS: [Condition; 19] = [
 ];
 
 type Field = fn(&mut Row) -> &mut u64;
+
+/// A row by its place in the list, and a field of it.
+type Moved = (usize, Field);
 
 /// Rows made ready, and the field that is then moved by one.
 struct Edge {
@@ -70,15 +94,6 @@ pub fn at_equality(list: &[u64], condition: Condition, seed: u64) -> Option<[Vec
     })
 }
 
-fn accepted(list: &[u64]) -> Option<(Vec<Row>, Vec<Settings>)> {
-    let mut card = vec![0; CARD_NUMBERS * list.len() / FIELDS];
-    if whole(list, &mut card) != Answer::DONE {
-        return None;
-    }
-    let settings = card.as_chunks::<CARD_NUMBERS>().0.iter().map(Settings::read);
-    Some((list.as_chunks::<FIELDS>().0.iter().map(Row::read).collect(), settings.collect()))
-}
-
 fn neighbours(edge: Edge) -> [Vec<u64>; 3] {
     [-1, 0, 1].map(|difference| {
         let mut rows = edge.rows.clone();
@@ -94,10 +109,10 @@ fn is_equal_at(rows: &[Row], settings: &[Settings], at: usize, condition: Condit
     let mut fed = fed_rows(rows, settings, row.row);
     let equal = |sides: Sides| sides.are_equal();
     match condition {
-        P1 => equal(returns_after_self_start(row, set.pickup)),
-        P2 => stays_clear_of_fed_rows(row, set.pickup, &fed).any(equal),
+        P1 | RangeP1 => equal(returns_after_self_start(row, set.pickup)),
+        P2 | RangeP2 => stays_clear_of_fed_rows(row, set.pickup, &fed).any(equal),
         P3 => equal(sees_own_zone(row, set.pickup)),
-        P4 => backs_up_fed_rows(row, set.pickup, &fed).any(equal),
+        P4 => fed.iter().any(|below| backs_up(row, set.pickup, &below.row).is_some_and(equal)),
         Floor => equal(not_below_floor(row, set.delay)),
         MotorDelay => not_below_motor_delay(row, set.delay).is_some_and(equal),
         Ceiling => equal(not_above_ceiling(row, set.delay)),
@@ -117,14 +132,14 @@ fn prepare(rows: &[Row], settings: &[Settings], at: usize, condition: Condition)
     let mut rows = rows.to_vec();
     let fed = fed_rows(&rows, settings, rows[at].row);
     let row = &mut rows[at];
-    let (moved, field): (usize, Field) = match condition {
-        P1 => (at, prepare_self_start(row, set.pickup)?),
-        P2 => (at, prepare_fed_rows(row, &fed)?),
+    let (moved, field): Moved = match condition {
+        P1 | RangeP1 => (at, prepare_self_start(row, set.pickup)?),
+        P2 | RangeP2 => (at, prepare_fed_rows(row, &fed)?),
         P3 => {
             row.far = divided(3 * set.pickup, 2)?;
             (at, |row| &mut row.far)
         }
-        P4 => prepare_backup(&mut rows, at, set.pickup)?,
+        P4 => prepare_backup(&mut rows, at, set.pickup, &fed)?,
         Floor => {
             row.floor = set.delay;
             (at, |row| &mut row.floor)
@@ -141,6 +156,9 @@ fn prepare(rows: &[Row], settings: &[Settings], at: usize, condition: Condition)
         CutoffClear => (at, prepare_clear(row, set.cutoff)?),
         CutoffNearLine | CutoffNearOther => (at, prepare_near(row, set.cutoff, condition)?),
     };
+    if matches!(condition, RangeP1 | RangeP2) {
+        end_range(&mut rows[at]);
+    }
     (*field(&mut rows[moved]) > 0).then_some(Edge { rows, moved, field })
 }
 
@@ -172,14 +190,24 @@ fn prepare_fed_rows(row: &mut Row, fed: &[Fed]) -> Option<Field> {
     Some(|row| &mut row.volts)
 }
 
-fn prepare_backup(rows: &mut [Row], at: usize, pickup: u64) -> Option<(usize, Field)> {
-    let (place, volts) = (rows[at].row, rows[at].volts);
-    let far = |below: &Row| divided(12 * pickup * volts, 10 * below.volts);
-    let right = |below: &Row| below.feeds_from == place && far(below).is_some();
-    let fed = rows.iter().position(right)?;
-    rows[fed].far = far(&rows[fed])?;
-    rows[fed].backed = 1;
-    Some((fed, |row| &mut row.far))
+/// Makes low the greatest available pickup, a few steps from a new low and as
+/// far below high as it can be.
+fn end_range(row: &mut Row) {
+    row.high = (row.low + row.step - 1).min(MOST_CURRENT);
+    row.low -= row.step * ((row.low - 1) / row.step).min(3);
+}
+
+/// One below, the fed row keeps its own zone, so that P4 is what refuses.
+fn prepare_backup(rows: &mut [Row], at: usize, pickup: u64, fed: &[Fed]) -> Option<Moved> {
+    let asked = 12 * pickup * rows[at].volts;
+    let (moved, far) = fed.iter().find_map(|below| {
+        let far = divided(asked, 10 * below.row.volts)?;
+        let less = Row { far: far - 1, ..below.row };
+        let keeps = sees_own_zone(&less, below.settings.pickup).hold();
+        keeps.then_some((below.row.row as usize - 1, far))
+    })?;
+    (rows[moved].far, rows[moved].backed) = (far, 1);
+    Some((moved, |row| &mut row.far))
 }
 
 /// One above, the fed row keeps room for its delay, so that D2 is what refuses.
@@ -189,7 +217,7 @@ fn prepare_step(
     delay: u64,
     fed: &[Fed],
     devices: [u64; 2],
-) -> Option<(usize, Field)> {
+) -> Option<Moved> {
     let row = rows[at];
     let decides = |below: &&Fed| {
         [row.device, below.row.device] == devices

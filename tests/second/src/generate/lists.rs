@@ -158,10 +158,14 @@ fn lean(rng: &mut Rng, depth: u64, fed: &[Fed]) -> (u64, u64, u64) {
 
 /// Sets all but backup to hold with a margin, often of nothing, save the fault.
 fn lay_margins(rng: &mut Rng, row: &mut Row, fed: &[Fed], fault: Option<Fault>) -> Settings {
+    if fault == Some(Fault::Backup) {
+        // High enough for P4 to fail where the fed rows keep their own zones.
+        row.low = row.low.max(3 * asked(fed) / (2 * row.volts)).min(MOST_CURRENT);
+    }
     let widest = Settings { pickup: row.high, delay: row.ceiling, cutoff: 0 };
     let set = settle(row, fed).unwrap_or(widest);
     let most = |current: u64| current.clamp(1, MOST_CURRENT);
-    row.far = most(over(rng, (3 * set.pickup).div_ceil(2)));
+    row.far = most(over(rng, zone_bound(set.pickup)));
     row.clear = most(set.pickup * rng.between(1, 8));
     row.high = most(set.pickup.max(row.clear * rng.between(5, 40) / 10));
     let bound = (row.factor * row.clear).div_ceil(1_000);
@@ -169,7 +173,7 @@ fn lay_margins(rng: &mut Rng, row: &mut Row, fed: &[Fed], fault: Option<Fault>) 
     row.near = most(cutoff * rng.pick(&[10, 12, 12, 13, 20, 20, 30]) / 10);
     row.ceiling = over(rng, set.delay).min(MOST_DELAY);
     match fault {
-        Some(Fault::Zone) => row.far = most((3 * set.pickup).div_ceil(2) - 1),
+        Some(Fault::Zone) => row.far = most(zone_bound(set.pickup) - 1),
         Some(Fault::Range) => row.high = set.pickup.saturating_sub(1).max(row.low),
         Some(Fault::Ceiling) => row.ceiling = set.delay.saturating_sub(1),
         _ => {}
@@ -187,12 +191,18 @@ pub fn backup_bound(below: &Row, row: &Row, pickup: u64) -> u64 {
     (12 * pickup * row.volts).div_ceil(10 * below.volts)
 }
 
-/// Leaves a fed row without backup, or raises its far to what P4 asks.
+/// The far that P3 asks of a row.
+pub fn zone_bound(pickup: u64) -> u64 {
+    (3 * pickup).div_ceil(2)
+}
+
+/// Leaves a fed row without backup, or raises its far to what P4 asks; at fault,
+/// some of the fed rows have less.
 fn lay_backup(rng: &mut Rng, below: &mut Row, row: &Row, pickup: u64, fault: Option<Fault>) {
     let bound = backup_bound(below, row, pickup);
-    if fault == Some(Fault::Backup) {
+    if fault == Some(Fault::Backup) && rng.chance(60) {
         below.backed = 1;
-        below.far = below.far.min(bound - 1);
+        below.far = below.far.min(rng.pick(&[bound - 1, bound * 9 / 10]));
     } else if bound <= below.far {
         below.backed = rng.below(2);
     } else if bound <= MOST_CURRENT && rng.chance(60) {

@@ -2,8 +2,8 @@
 //! them [01 §4].
 
 use super::damage::{damaged, lent_card};
-use super::lists::list;
-use super::Rng;
+use super::lists::{backup_bound, list, zone_bound};
+use super::{accepted, Rng};
 use crate::replace::Ledger;
 use crate::row::*;
 use crate::whole::{whole, Answer};
@@ -55,9 +55,28 @@ pub fn change(list: &[u64], seed: u64) -> Change {
         8 => row.floor = row.ceiling.saturating_add(1).min(MOST_DELAY),
         9 => {}
         10 | 11 => row.device = rng.between(1, 3),
+        12 => just_fits(&mut rng, list, &mut row),
         _ => return Change { place, row: nudged(&mut rng, old) },
     }
     Change { place, row: row.numbers().to_vec() }
+}
+
+/// At an accepted list's own pickups: high, far for P3 or far for the feeding
+/// row's P4 is just enough, or one too little [02 §2].
+fn just_fits(rng: &mut Rng, list: &[u64], row: &mut Row) {
+    let Some((rows, settings)) = accepted(list) else { return };
+    let pickup_of = |place: u64| settings[place as usize - 1].pickup;
+    let (own, less) = (pickup_of(row.row), rng.below(2));
+    match rng.below(4) {
+        0 => row.high = (own - less).max(row.low),
+        1 => row.far = zone_bound(own).min(MOST_CURRENT) - less,
+        _ if row.feeds_from == 0 => {}
+        _ => {
+            let feeder = rows[row.feeds_from as usize - 1];
+            let bound = backup_bound(row, &feeder, pickup_of(feeder.row));
+            (row.far, row.backed) = (bound.min(MOST_CURRENT) - less, 1);
+        }
+    }
 }
 
 /// EDIT by the place, by field 1, by field 2, or by the length of the row.

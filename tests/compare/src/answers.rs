@@ -1,0 +1,63 @@
+//! Answers in their three numbers [01 §4, 02 §2]: what they are called, when two
+//! agree, and which must turn up.
+
+use crate::boundary;
+use crate::run::{Item, Score};
+use second::answer::*;
+use second::row::Row;
+
+/// Every number but 0; 6 is retired.
+const REFUSALS: [(u64, &str); 12] = [
+    (TEXT, "TEXT"),
+    (COUNT, "COUNT"),
+    (ROOM, "ROOM"),
+    (FIELD, "FIELD"),
+    (TREE, "TREE"),
+    (DELAY, "DELAY"),
+    (STUDY, "STUDY"),
+    (CARD, "CARD"),
+    (EDIT, "EDIT"),
+    (RANGE, "RANGE"),
+    (OWN_ZONE, "OWN ZONE"),
+    (BACKUP, "BACKUP"),
+];
+
+/// The numbers whose third number names something.
+pub const NAMING: [u64; 2] = [FIELD, BACKUP];
+
+pub fn name_of(number: u64) -> &'static str {
+    REFUSALS.iter().find(|refusal| refusal.0 == number).map_or("done", |refusal| refusal.1)
+}
+
+/// Whether an answer of the library is the one expected, in all three numbers,
+/// the third one not 0 exactly where it names something.
+pub fn agree(given: Answer, expected: Answer) -> bool {
+    given == expected && (given.field != 0) == NAMING.contains(&given.number)
+}
+
+/// The answer by its number; BACKUP with 1 where an earlier row is fed there too.
+pub fn item_of(list: &[u64], answer: Answer) -> Item {
+    let is_earlier = |row: Row| row.feeds_from == answer.place && row.row < answer.field;
+    let later = answer.number == BACKUP && list.as_chunks().0.iter().map(Row::read).any(is_earlier);
+    (answer.number, u64::from(later))
+}
+
+/// What must turn up where these numbers are given back.
+pub fn items_of(numbers: &[u64]) -> Vec<Item> {
+    let later = numbers.contains(&BACKUP).then_some((BACKUP, 1));
+    numbers.iter().map(|&number| (number, 0)).chain(later).collect()
+}
+
+pub fn label(item: Item) -> String {
+    format!("{}{}", name_of(item.0), ["", " of a later fed row"][item.1 as usize])
+}
+
+/// The header has the same names and numbers.
+pub fn check_header(score: &mut Score) {
+    let header = boundary::defined("REFUSED_");
+    let named = header.iter().map(|(name, number)| (*number, name.replace('_', " ")));
+    let mut named: Vec<_> = named.collect();
+    named.sort();
+    let same = named.iter().map(|(number, name)| (*number, name.as_str())).eq(REFUSALS);
+    score.count(same, &format!("the header's refusals: {named:?}"));
+}
