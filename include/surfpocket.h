@@ -31,7 +31,7 @@ extern "C" {
 
 /* Grows with every change of a number or a struct of this header. A caller built with another header than the library's would be
    misread in silence: where that can happen, as with a shared object, compare the two first, and stop if they differ. */
-#define SURFPOCKET_VERSION 1
+#define SURFPOCKET_VERSION 2
 uint64_t surfpocket_version(void);
 
 /* Sizes. The first two grow in later versions, so use their names.
@@ -52,18 +52,21 @@ uint64_t surfpocket_version(void);
 #define SURFPOCKET_REFUSED_ROOM 3
 #define SURFPOCKET_REFUSED_FIELD 4
 #define SURFPOCKET_REFUSED_TREE 5
-#define SURFPOCKET_REFUSED_PICKUP 6
 #define SURFPOCKET_REFUSED_DELAY 7
 #define SURFPOCKET_REFUSED_STUDY 8
 #define SURFPOCKET_REFUSED_CARD 9
 #define SURFPOCKET_REFUSED_EDIT 10
+#define SURFPOCKET_REFUSED_RANGE 11
+#define SURFPOCKET_REFUSED_OWN_ZONE 12
+#define SURFPOCKET_REFUSED_BACKUP 13
 
 /* The units of a reading. */
 #define SURFPOCKET_UNIT_AMPERES 1
 #define SURFPOCKET_UNIT_KILOAMPERES 2
 #define SURFPOCKET_UNIT_PER_UNIT 3
 
-/* Number, place (a row from 1, or 0) and, for FIELD, the field from 1. */
+/* Number, place (a row from 1, or 0) and what names it more closely: for FIELD the field from 1, for BACKUP the fed row from 1, for
+   any other number 0. */
 typedef struct {
     uint64_t number;
     uint64_t place;
@@ -90,7 +93,9 @@ typedef struct {
    leaves the card as it was. The card's numbers past its rows stay.
    Order: COUNT (no row, over 256, or a partial row: a length that is no multiple of 18), ROOM (fewer than 3 card numbers a row),
    FIELD over all rows ascending (in a row its fields ascending, then low above high, which is field 12), TREE over all rows
-   ascending, then row by row PICKUP before DELAY.
+   ascending, then row by row RANGE, OWN ZONE or BACKUP before DELAY. For the first of these the least pickup that the relay offers and
+   that meets P1 and P2 is taken: RANGE where there is none, OWN ZONE where it fails P3, BACKUP where it fails P4 for a fed row, the
+   first of which is named. No other pickup that the relay offers would do either.
    A delay is at least that of each fed row plus the larger of the two rows' time steps: 300, 500 or 200 ms for device 1, 2 or 3
    (libraries from before this rule took the fed row's alone). The other conditions are those of the README's table. */
 SurfpocketAnswer surfpocket_whole(const uint64_t *list, size_t list_length, uint64_t *card, size_t card_length);
@@ -101,7 +106,7 @@ SurfpocketAnswer surfpocket_whole(const uint64_t *list, size_t list_length, uint
    numbers past its rows.
    Order: COUNT, ROOM, EDIT (no row has that place, the new row is not 18 numbers, or its number or feeder is another), then FIELD
    and TREE over the list as it would be, CARD over all rows ascending (pickup 1 to 100,000,000, delay 0 to 100,000, cutoff 0 to
-   100,000,000), then PICKUP before DELAY row by row along the path. */
+   100,000,000), then RANGE, OWN ZONE or BACKUP before DELAY row by row along the path. */
 SurfpocketAnswer surfpocket_replace(uint64_t *list, size_t list_length, uint64_t *card, size_t card_length, uint64_t place,
                                     const uint64_t *row, size_t row_length);
 

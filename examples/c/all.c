@@ -36,18 +36,27 @@ static const char *name_of(uint64_t number)
     case SURFPOCKET_REFUSED_ROOM: return "ROOM";
     case SURFPOCKET_REFUSED_FIELD: return "FIELD";
     case SURFPOCKET_REFUSED_TREE: return "TREE";
-    case SURFPOCKET_REFUSED_PICKUP: return "PICKUP";
     case SURFPOCKET_REFUSED_DELAY: return "DELAY";
     case SURFPOCKET_REFUSED_STUDY: return "STUDY";
     case SURFPOCKET_REFUSED_CARD: return "CARD";
     case SURFPOCKET_REFUSED_EDIT: return "EDIT";
+    case SURFPOCKET_REFUSED_RANGE: return "RANGE";
+    case SURFPOCKET_REFUSED_OWN_ZONE: return "OWN ZONE";
+    case SURFPOCKET_REFUSED_BACKUP: return "BACKUP";
     default: return "a number of a later version";
     }
 }
 
+/* what the third number is */
+static const char *third_of(uint64_t number)
+{
+    return number == SURFPOCKET_REFUSED_BACKUP ? "fed row" : "field";
+}
+
 static void show(const char *what, SurfpocketAnswer answer)
 {
-    printf("  %-40s %s, place %" PRIu64 ", field %" PRIu64 "\n", what, name_of(answer.number), answer.place, answer.field);
+    printf("  %-40s %s, place %" PRIu64 ", %s %" PRIu64 "\n", what, name_of(answer.number), answer.place, third_of(answer.number),
+           answer.field);
 }
 
 static void show_card(const uint64_t *card)
@@ -81,7 +90,9 @@ static void whole(void)
     try_whole("row 1: volts 99", 0, VOLTS, 99);
     try_whole("row 1: low above high", 0, LOW, 5000001);
     try_whole("row 1: fed by itself", 0, FEEDS_FROM, 1);
+    try_whole("row 2: high 359,999 mA", 1, HIGH, 359999);
     try_whole("row 2: far 539,999 mA", 1, FAR, 539999);
+    try_whole("row 2: low 760,000 mA", 1, LOW, 760000);
     try_whole("row 2: ceiling 2,199 ms", 1, CEILING, 2199);
 }
 
@@ -107,6 +118,7 @@ static void replace(void)
     show_card(card);
     memcpy(old_list, list, sizeof list);
     memcpy(old_card, card, sizeof card);
+    show("work 5,000,000 mA", put_row_1(list, card, WORK, 5000000));
     show("far 431,000 mA", put_row_1(list, card, FAR, 431000));
     show("floor 2,501 ms", put_row_1(list, card, FLOOR, 2501));
     show("volts 99", put_row_1(list, card, VOLTS, 99));
@@ -149,8 +161,8 @@ static void print(const char *what, const void *bytes, size_t length, size_t roo
 {
     static uint8_t out[SURFPOCKET_SIZE_PRINTED];
     SurfpocketPrinted printed = surfpocket_card(bytes, length, out, room);
-    printf("  %-40s %s, place %" PRIu64 ", field %" PRIu64 ", %" PRIu64 " bytes\n", what, name_of(printed.number), printed.place,
-           printed.field, printed.bytes);
+    printf("  %-40s %s, place %" PRIu64 ", %s %" PRIu64 ", %" PRIu64 " bytes\n", what, name_of(printed.number), printed.place,
+           third_of(printed.number), printed.field, printed.bytes);
     for (size_t i = 0; i < printed.bytes; i++) {
         if (out[i] != '\r') {
             printf("%s%c", i == 0 || out[i - 1] == '\n' ? "    " : "", out[i]);

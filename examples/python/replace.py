@@ -1,4 +1,4 @@
-"""A feeder and its incomer: one changed load on the old card, a change that is refused and leaves the card alone, another device."""
+"""A feeder and its incomer: one changed load on the old card, changes that are refused and leave the card alone, another device."""
 import surfpocket
 
 # row, feeds_from, kind, volts, work, selfstart, return, far, clear, near, factor, low, high, step, device, floor, ceiling, backed
@@ -7,6 +7,7 @@ IN = [2, 0, 1, 35000, 200000, 1500, 935, 1500000, 3300000, 5200000, 1300, 50000,
 # places in a row, from 0
 WORK = 4
 FAR = 7
+LOW = 11
 DEVICE = 14
 
 
@@ -34,7 +35,9 @@ def main():
     replace(library, rows, card, changed(F1, WORK, 190000))
     print("row 1, far 431,000 mA:")
     replace(library, rows, card, changed(F1, FAR, 431000))
-    print("the card after it:")
+    print("row 2, pickups from 760,000 mA on:")
+    replace(library, rows, card, changed(IN, LOW, 760000))
+    print("the card after them:")
     surfpocket.print_card(card)
     print("row 2, an electromechanical relay:")
     replace(library, rows, card, changed(IN, DEVICE, 2))

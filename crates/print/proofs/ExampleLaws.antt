@@ -1,4 +1,4 @@
--- Section 6's card and a refusal, letter by letter as they are printed [01 §6].
+-- Section 6's card and refusals, letter by letter as they are printed [01 §6]: FIELD, and BACKUP with its fed row [02 §2].
 use mathlib.Core.Path.{_≡_, refl}
 use mathlib.Core.List.{[], _∷_}
 use Rattle.cursor.specs.Spelt.{spelt}
@@ -14,6 +14,10 @@ card-printed = refl
 pub refusal-printed : refusalText (4 ∷ 2 ∷ 12 ∷ []) ≡ spelt "refused,place,field\r\n4,2,12\r\n"
 unfolding lastDigit lastDigits numberText fieldsText refusalText spelt
 refusal-printed = refl
+
+pub backup-printed : refusalText (13 ∷ 6 ∷ 5 ∷ []) ≡ spelt "refused,place,field\r\n13,6,5\r\n"
+unfolding lastDigit lastDigits numberText fieldsText refusalText spelt
+backup-printed = refl
 
 -- 0 is a digit, and the longest number has 20
 pub numbers-printed : (numberText 0 ≡ spelt "0") × (numberText 18446744073709551615 ≡ spelt "18446744073709551615")

@@ -56,4 +56,5 @@ def print_card(card):
 
 def print_refusal(answer):
     name = next(name for name, value in CONSTANT.items() if name.startswith("REFUSED_") and value == answer.number)
-    print(f"{name}, place {answer.place}, field {answer.field}")
+    third = "fed row" if answer.number == CONSTANT["REFUSED_BACKUP"] else "field"
+    print(f"{name}, place {answer.place}, {third} {answer.field}")
