@@ -52,5 +52,6 @@ pub table :
     (Done ∷ Text place ∷ Count ∷ Room ∷ Field place field ∷ Tree place ∷ Unsettled place (Pickup Range) ∷ Unsettled place (Pickup OwnZone) ∷
     Unsettled place (Pickup (Backup fed)) ∷ Unsettled place Delay ∷ Study place ∷ Card place ∷ Edit ∷ []) ≡
     (0 ∷ 0 ∷ 0 ∷ []) ∷ (1 ∷ place ∷ 0 ∷ []) ∷ (2 ∷ 0 ∷ 0 ∷ []) ∷ (3 ∷ 0 ∷ 0 ∷ []) ∷ (4 ∷ place ∷ field ∷ []) ∷ (5 ∷ place ∷ 0 ∷ []) ∷
-    (11 ∷ place ∷ 0 ∷ []) ∷ (12 ∷ place ∷ 0 ∷ []) ∷ (13 ∷ place ∷ fed ∷ []) ∷ (7 ∷ place ∷ 0 ∷ []) ∷ (8 ∷ place ∷ 0 ∷ []) ∷ (9 ∷ place ∷ 0 ∷ []) ∷ (10 ∷ 0 ∷ 0 ∷ []) ∷ []
+    (11 ∷ place ∷ 0 ∷ []) ∷ (12 ∷ place ∷ 0 ∷ []) ∷ (13 ∷ place ∷ fed ∷ []) ∷ (7 ∷ place ∷ 0 ∷ []) ∷
+    (8 ∷ place ∷ 0 ∷ []) ∷ (9 ∷ place ∷ 0 ∷ []) ∷ (10 ∷ 0 ∷ 0 ∷ []) ∷ []
 table place field fed = refl

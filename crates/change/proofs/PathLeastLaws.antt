@@ -98,7 +98,8 @@ module _ (l : List ℕ) (b : Feeds l) (i : ℕ) (h : i < rows l) (c : List ℕ) 
 
   -- settings that meet every condition are never refused
   pub never-refused : (k′ : Settings) → PathMeets l i c k′ → {x : Answer} → PathRefused l i c x → ⊥
-  never-refused k′ m (NO-PICKUP k j why u n) = some-pickup k j u k′ (suc j) (row-within u) (met-all k′ (suc j) m) (omega arith) (cause-no-pickup (viewOf l) k j n)
+  never-refused k′ m (NO-PICKUP k j why u n) =
+      some-pickup k j u k′ (suc j) (row-within u) (met-all k′ (suc j) m) (omega arith) (cause-no-pickup (viewOf l) k j n)
   never-refused k′ m (DELAY k j u p n) = some-delay k j u k′ (suc j) (row-within u) (met-all k′ (suc j) m) (omega arith) n
 
   -- two refusals: the one that is named first in k would fit in k′

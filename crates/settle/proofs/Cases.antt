@@ -7,7 +7,8 @@ use Rattle.grid.specs.Grid.{count, valueAt, leastOn}
 use Rattle.settle.specs.Cases.{network, below, conditions, same, settlings, all}
 use Rattle.settle.specs.Conditions.{returnsAfterSelfStart, clearOf, seesOwnZone, backsUp, withinDelays}
 use Rattle.settle.specs.Conditions.{margin, marginBetween, gradedAbove, staysClear, seesNear}
-use Rattle.settle.specs.Settle.{aboveLoad, unbacked, firstUnbacked, leastAboveLoad, backed, judged, picked, meetsDelay, fitting, cutoffOf, printed, shown, outcomeOf, settled}
+use Rattle.settle.specs.Settle.{aboveLoad, unbacked, firstUnbacked, leastAboveLoad, backed, judged, picked}
+use Rattle.settle.specs.Settle.{meetsDelay, fitting, cutoffOf, printed, shown, outcomeOf, settled}
 
 pub condition-cases : all conditions ≡ true
 unfolding all conditions network below sumTo every returnsAfterSelfStart clearOf seesOwnZone backsUp withinDelays margin marginBetween

@@ -25,7 +25,7 @@ use Rattle.settle.specs.Conditions.{seesOwnZone}
 use Rattle.settle.specs.Inequalities.{AvailableOn, Feeding, AboveLoad, SeesOwnZone, BacksUp, PickupMet, SomePickup, NoPickup}
 use Rattle.settle.specs.Inequalities.{LeastAboveLoad, NoneAboveLoad, CauseIs}
 use Rattle.settle.specs.Inequalities.CauseIs.{RANGE, OWN-ZONE, BACKUP}
-use Rattle.settle.specs.Settle.{aboveLoad, firstUnbacked, leastAboveLoad, backed, judged, picked}
+use Rattle.settle.specs.Settle.{aboveLoad, firstUnbacked, leastAboveLoad, backed, judged, picked, pickupOf}
 use Rattle.settle.proofs.ConditionTheorems.{P3-exactly}
 use Rattle.settle.proofs.MeetsTheorems.{load-exactly, unbacked-exactly, backed-all-exactly}
 
@@ -110,16 +110,12 @@ module _ (v : View) (k : Settings) (i : ℕ) (p : 0 < v .row i .step) where
     λ n. leastOn-none _ _ _ p (aboveLoad v k i) (λ I a. fails (aboveLoad v k i I) (λ t. n I a (load-exactly v k i I .0 t))),
   )
 
-  -- the pickup of row i, or the cause
-  abbrev pub pickupOf : Picked
-  pickupOf = picked (v .row i) (leastAboveLoad v k i) (firstUnbacked v i (v .row i))
-
   -- what it comes to: the least pickup meeting P1 and P2 also meets P3 and P4, or the cause is so
   abbrev Comes : Picked → Type 0
   Comes (Fits I) = LeastAboveLoad v k i I × PickupMet v k i I
   Comes (Unfit why) = CauseIs v k i why
 
-  comes : Comes pickupOf
+  comes : Comes (pickupOf v k i)
   unfolding picked judged backed
   comes = by-least (leastAboveLoad v k i) refl
     where
@@ -137,7 +133,7 @@ module _ (v : View) (k : Settings) (i : ℕ) (p : 0 < v .row i .step) where
           rw z (OWN-ZONE I (least-exactly I .0 e) (λ s. not-both (P3-exactly (v .row i) I .1 s) z)))
           (passes-or-fails (seesOwnZone (v .row i) I))
 
-  of-cause : {why : Cause} → CauseIs v k i why → pickupOf ≡ Unfit why
+  of-cause : {why : Cause} → CauseIs v k i why → pickupOf v k i ≡ Unfit why
   unfolding picked judged backed
   of-cause (RANGE n) = rw (none-exactly .1 n)
   of-cause (OWN-ZONE I m n) =
@@ -145,7 +141,7 @@ module _ (v : View) (k : Settings) (i : ℕ) (p : 0 < v .row i .step) where
   of-cause (BACKUP I j m z u) =
       rw (least-exactly I .1 m, P3-exactly (v .row i) I .1 z, unbacked-exactly v i I j .1 u)
 
-  pub cause-exactly : (why : Cause) → (pickupOf ≡ Unfit why) ↔ CauseIs v k i why
+  pub cause-exactly : (why : Cause) → (pickupOf v k i ≡ Unfit why) ↔ CauseIs v k i why
   cause-exactly why = (λ e. subst Comes e comes, of-cause)
 
   -- there is one only
@@ -155,43 +151,37 @@ module _ (v : View) (k : Settings) (i : ℕ) (p : 0 < v .row i .step) where
       same : {why why′ : Cause} → Unfit why ≡ Unfit why′ → why ≡ why′
       same e = cc
 
-  pub fits-exactly : (I : ℕ) → (pickupOf ≡ Fits I) ↔ (LeastAboveLoad v k i I × PickupMet v k i I)
+  pub fits-exactly : (I : ℕ) → (pickupOf v k i ≡ Fits I) ↔ (LeastAboveLoad v k i I × PickupMet v k i I)
   unfolding picked judged backed
   fits-exactly I = (λ e. subst Comes e comes, of-fits)
     where
-      of-fits : LeastAboveLoad v k i I × PickupMet v k i I → pickupOf ≡ Fits I
+      of-fits : LeastAboveLoad v k i I × PickupMet v k i I → pickupOf v k i ≡ Fits I
       of-fits m = rw (least-exactly I .1 (m .0), P3-exactly (v .row i) I .1 (m .1 .P3), backed-all-exactly v i I .1 (m .1 .P4))
 
-  -- a pickup fits, or one of the three applies
-  pub fits-or-cause : ((I : ℕ) × (pickupOf ≡ Fits I)) ⊎ ((why : Cause) × CauseIs v k i why)
-  fits-or-cause = by-cases pickupOf refl
-    where
-      by-cases : (x : Picked) → pickupOf ≡ x → ((I : ℕ) × (pickupOf ≡ Fits I)) ⊎ ((why : Cause) × CauseIs v k i why)
-      by-cases (Fits I) e = inl (I, e)
-      by-cases (Unfit why) e = inr (why, cause-exactly why .0 e)
-
   -- where some pickup meets P1 to P4, one fits
-  pub fits-some : SomePickup v k i → (I : ℕ) × (pickupOf ≡ Fits I)
-  fits-some s = ⊎-elim (λ f. f) (λ c. absurd (cause-no-pickup v k i (c .1) (s .0) (s .1) (s .2))) fits-or-cause
+  pub fits-some : SomePickup v k i → (I : ℕ) × (pickupOf v k i ≡ Fits I)
+  fits-some s = by-cases (pickupOf v k i) refl
+    where
+      by-cases : (x : Picked) → pickupOf v k i ≡ x → (I : ℕ) × (pickupOf v k i ≡ Fits I)
+      by-cases (Fits I) e = (I, e)
+      by-cases (Unfit why) e = absurd (cause-no-pickup v k i (cause-exactly why .0 e) (s .0) (s .1) (s .2))
+
+  -- some pickup meets P1 to P4, or one of the three applies
+  some-or-cause : SomePickup v k i ⊎ ((why : Cause) × CauseIs v k i why)
+  some-or-cause = by-cases (pickupOf v k i) comes
+    where
+      by-cases : (x : Picked) → Comes x → SomePickup v k i ⊎ ((why : Cause) × CauseIs v k i why)
+      by-cases (Fits I) m = inl (I, m .0 .available, m .1)
+      by-cases (Unfit why) c = inr (why, c)
 
   pub exists-exactly : SomePickup v k i ↔ ((why : Cause) → CauseIs v k i why → ⊥)
   exists-exactly = (
     λ s why c. cause-no-pickup v k i c (s .0) (s .1) (s .2),
-    λ none.
-        ⊎-elim
-        (λ (f : (I : ℕ) × (pickupOf ≡ Fits I)).
-        let m = fits-exactly (f .0) .0 (f .1) in (f .0, m .0 .available, m .1))
-        (λ (c : (why : Cause) × CauseIs v k i why). absurd (none (c .0) (c .1)))
-        fits-or-cause,
+    λ none. ⊎-elim (λ s. s) (λ c. absurd (none (c .0) (c .1))) some-or-cause,
   )
 
   pub none-exists-exactly : NoPickup v k i ↔ ((why : Cause) × CauseIs v k i why)
   none-exists-exactly = (
-    λ n.
-        ⊎-elim
-        (λ (f : (I : ℕ) × (pickupOf ≡ Fits I)).
-        let m = fits-exactly (f .0) .0 (f .1) in absurd (n (f .0) (m .0 .available) (m .1)))
-        (λ c. c)
-        fits-or-cause,
+    λ n. ⊎-elim (λ s. absurd (n (s .0) (s .1) (s .2))) (λ c. c) some-or-cause,
     λ c. cause-no-pickup v k i (c .1),
   )

@@ -18,8 +18,8 @@ use Rattle.layout.specs.View.{View, Settings}
 use Rattle.settle.specs.declared.Settled.the-variants.{Unset}
 use Rattle.settle.specs.Inequalities.{SomePickup, NoDelay, NoneAboveLoad, CauseIs, LeastRow, RowSettled}
 use Rattle.settle.specs.Inequalities.CauseIs.{RANGE}
-use Rattle.settle.specs.Settle.{meetsDelay, leastDelay, cutoffOf, printed, shown, outcomeOf, settled}
-use Rattle.settle.proofs.CauseTheorems.{range-means, pickupOf, cause-exactly, fits-exactly, fits-some, least-above-load}
+use Rattle.settle.specs.Settle.{pickupOf, meetsDelay, leastDelay, cutoffOf, printed, shown, outcomeOf, settled}
+use Rattle.settle.proofs.CauseTheorems.{range-means, cause-exactly, fits-exactly, fits-some, least-above-load}
 use Rattle.settle.proofs.MeetsTheorems.{delay-exactly}
 use Rattle.settle.proofs.OutcomeLaws.{outcome-set, outcome-no-pickup, outcome-no-delay}
 
@@ -40,7 +40,7 @@ module _ (v : View) (k : Settings) (i : ℕ) (p : 0 < v .row i .step) where
   pub no-pickup-exactly : (why : Cause) → (settled v k i ≡ Unset (Pickup why)) ↔ CauseIs v k i why
   unfolding settled outcomeOf
   no-pickup-exactly why = (
-    λ e. cause-exactly v k i p why .0 (outcome-no-pickup (v .row i) (pickupOf v k i p) delay why e),
+    λ e. cause-exactly v k i p why .0 (outcome-no-pickup (v .row i) (pickupOf v k i) delay why e),
     λ c. rw (cause-exactly v k i p why .1 c),
   )
 
@@ -53,7 +53,7 @@ module _ (v : View) (k : Settings) (i : ℕ) (p : 0 < v .row i .step) where
   unfolding settled outcomeOf
   no-delay-exactly = (
     λ e.
-        let q = outcome-no-delay (v .row i) (pickupOf v k i p) delay e in
+        let q = outcome-no-delay (v .row i) (pickupOf v k i) delay e in
         let m = fits-exactly v k i p (q .0 .0) .0 (q .0 .1) in (
           (q .0 .0, m .0 .available, m .1),
           λ t h.
@@ -68,7 +68,7 @@ module _ (v : View) (k : Settings) (i : ℕ) (p : 0 < v .row i .step) where
   unfolding settled shown
   settled-least s =
       let o = s .outcome in
-      let q = outcome-set (v .row i) (pickupOf v k i p) delay o (s .settles) in
+      let q = outcome-set (v .row i) (pickupOf v k i) delay o (s .settles) in
       let m = fits-exactly v k i p (o .pickup) .0 (q .pickup-fits) in
       let d = leastOn-least _ _ 1 (omega arith) (meetsDelay v k i) (o .delay) (q .delay-found) in
       let pickup : k i .pickup ≡ o .pickup = ap (λ (r : CardRow). r .pickup) (s .shows) in

@@ -55,6 +55,10 @@ unfoldable pub picked : Row → Found → (ℕ → Found) → Picked
 picked r Nothing fails = Unfit Range
 picked r (At I) fails = judged r I (fails I)
 
+-- the pickup of row i, or why it has none
+abbrev pub pickupOf : View → Settings → ℕ → Picked
+pickupOf v k i = picked (v .row i) (leastAboveLoad v k i) (firstUnbacked v i (v .row i))
+
 -- the least delay that passes; delays come in steps of 1, and D1 keeps them between floor and ceiling
 abbrev pub leastDelay : Row → (ℕ → Bool) → Found
 leastDelay r ok = leastOn (r .floor) (r .ceiling) 1 ok
@@ -82,7 +86,6 @@ outcomeOf r (Unfit why) delay = Unset (Pickup why)
 outcomeOf r (Fits I) Nothing = Unset Delay
 outcomeOf r (Fits I) (At t) = Set (record { pickup = I; delay = t; cutoff = cutoffOf r })
 
--- the least settings of row i
+-- the least settings of row i, or why it has none
 unfoldable pub settled : View → Settings → ℕ → Settled
-settled v k i =
-    outcomeOf (v .row i) (picked (v .row i) (leastAboveLoad v k i) (firstUnbacked v i (v .row i))) (leastDelay (v .row i) (meetsDelay v k i))
+settled v k i = outcomeOf (v .row i) (pickupOf v k i) (leastDelay (v .row i) (meetsDelay v k i))
