@@ -1,6 +1,6 @@
 -- The numbers of section 4's table, with request §2's in the place of 6, which none has; a row that can't be settled is refused, and
 -- not with EDIT, whatever the reason.
-use mathlib.Core.Path.{_≡_, refl}
+use mathlib.Core.Path.{_≡_, refl, ap}
 use mathlib.Core.Bool.{false}
 use mathlib.Core.List.{[], _∷_, map}
 use Prim.Native.Nat.{ℕ, _<_}
@@ -20,14 +20,17 @@ unsettled-above row (Pickup OwnZone) = omega arith
 unsettled-above row (Pickup (Backup fed)) = omega arith
 unsettled-above row Delay = omega arith
 
-pub unsettled-not-done : (row : ℕ) (why : Reason) → eqb (numberOf (Unsettled row why)) 0 ≡ false
-unsettled-not-done row why = ne-eqb (numberOf (Unsettled row why)) 0 (λ e. omega (arith, unsettled-above row why))
+pub unsettled-not-0 : (row : ℕ) (why : Reason) → eqb (numberOf (Unsettled row why)) 0 ≡ false
+unsettled-not-0 row why = ne-eqb (numberOf (Unsettled row why)) 0 (λ e. omega (arith, unsettled-above row why))
 
-pub unsettled-not-edit : (row : ℕ) (why : Reason) → eqb (numberOf (Unsettled row why)) 10 ≡ false
-unsettled-not-edit row (Pickup Range) = refl
-unsettled-not-edit row (Pickup OwnZone) = refl
-unsettled-not-edit row (Pickup (Backup fed)) = refl
-unsettled-not-edit row Delay = refl
+pub unsettled-not-10 : (row : ℕ) (why : Reason) → eqb (numberOf (Unsettled row why)) 10 ≡ false
+unsettled-not-10 row (Pickup Range) = refl
+unsettled-not-10 row (Pickup OwnZone) = refl
+unsettled-not-10 row (Pickup (Backup fed)) = refl
+unsettled-not-10 row Delay = refl
+
+pub unsettled-not-done : {row : ℕ} {why : Reason} → Unsettled row why ≡ Done → ⊥
+unsettled-not-done {row} {why} e = let q = ap numberOf e in omega (arith, unsettled-above row why)
 
 -- [02 §2] "6 is retired"
 pub six-retired : (a : Answer) → eqb (numberOf a) 6 ≡ false

@@ -27,11 +27,11 @@ use Rattle.settle.specs.Inequalities.{LeastRow}
 use Rattle.settle.specs.Settle.{leastPickup, fitting, cutoffOf, printed}
 use Rattle.rowwise.specs.WorkOut.{Worked, finished, refused, onPassed}
 use Rattle.calculate.specs.Gets.{Gets}
-use Rattle.calculate.specs.Refused.{RefusedAt}
 use Rattle.calculate.specs.Whole.{ending, calculation, whole}
 use Rattle.calculate.proofs.Demand1.{every-list-gets}
 use Rattle.calculate.proofs.Demand2.{accepted-least}
 use Rattle.calculate.proofs.FrameLaws.{calculation-keeps}
+use Rattle.calculate.proofs.RefusedLaws.{refused-not-done}
 
 -- a cutoff is one of the row's pickups, or 0
 pub cutoff-to : (r : Row) → Bounded r → printed (cutoffOf r) ≤ 100000000
@@ -56,10 +56,6 @@ least-in-range v k i b m =
       delay-to = le-trans (m .delay .D1 .1) (b .ceiling-to);
       cutoff-to = rw (m .cutoff) (cutoff-to (v .row i) b);
     }
-
-refused-not-done : {v : View} {a : Answer} → RefusedAt v a → a ≡ Done → ⊥
-refused-not-done (RefusedAt.NO-PICKUP k i why u n) e = zero-not-one cc
-refused-not-done (RefusedAt.DELAY k i u p n) e = zero-not-one cc
 
 module _ (l c : List ℕ) where
   pub card-in-range : whole l c .answer ≡ Done → (i : ℕ) → i < rows l → CardRowInRange (cardRowAt (whole l c .card) i)

@@ -17,7 +17,7 @@ use Rattle.fold.proofs.BoolLaws.{zero-not-one}
 use Rattle.answers.specs.declared.Answer.{Answer}
 use Rattle.answers.specs.declared.Answer.the-variants.{Done, Unsettled}
 use Rattle.answers.specs.declared.Cause.{Cause}
-use Rattle.answers.specs.declared.Reason.{Reason}
+use Rattle.answers.proofs.AnswerLaws.{unsettled-not-done}
 use Rattle.answers.specs.declared.Reason.the-variants.{Pickup, Delay}
 use Rattle.answers.specs.declared.Tested.{Tested}
 use Rattle.answers.specs.declared.Tested.the-variants.{Passed, Refused}
@@ -42,13 +42,10 @@ use Rattle.calculate.specs.Whole.{Result, ending, calculation, whole}
 use Rattle.calculate.proofs.FrameLaws.{calculation-keeps}
 use Rattle.calculate.proofs.LeastLaws.{pickups-under, pickup-fits, delays-under, delay-fits}
 use Rattle.calculate.proofs.MeetsLaws.{least-meets}
-use Rattle.calculate.proofs.RefusedLaws.{calculation-refused}
+use Rattle.calculate.proofs.RefusedLaws.{refused-not-done, calculation-refused}
 use Rattle.calculate.proofs.SettledLaws.{calculation-settled}
 
 -- no answer is two things at once
-unsettled-not-done : {row : ℕ} {why : Reason} → Unsettled row why ≡ Done → ⊥
-unsettled-not-done e = zero-not-one cc
-
 pickup-not-delay : {row row′ : ℕ} {why : Cause} → Unsettled row (Pickup why) ≡ Unsettled row′ Delay → ⊥
 pickup-not-delay e = zero-not-one cc
 
@@ -84,18 +81,13 @@ module _ (l c : List ℕ) (size : RightSize l) (room : HasRoom l (length c)) (a 
       by-cases (refused x) f =
           refused-by x (ap (λ (r : Result). r .answer) (calculates ∙ ap (ending c) f)) (calculation-refused l bounded b c x room f)
 
-  -- a refusal by row is no acceptance
-  never-done : {x : Answer} → RefusedAt v x → x ≡ Done → ⊥
-  never-done (NO-PICKUP k i why u n) e = unsettled-not-done e
-  never-done (DELAY k i u p n) e = unsettled-not-done e
-
   every-row-settled : whole l c .answer ≡ Done → (j : ℕ) → j < rows l → RowSettled v card j
   unfolding v card
   every-row-settled e = by-cases ended
     where
       by-cases : Ended → (j : ℕ) → j < rows l → RowSettled v card j
       by-cases (accepted d f) = calculation-settled l b c (whole l c .card) room f
-      by-cases (refused-by x d z) = absurd (never-done z (sym d ∙ e))
+      by-cases (refused-by x d z) = absurd (refused-not-done z (sym d ∙ e))
 
   -- each row of the card stands at its own least settings
   pub accepted-least : whole l c .answer ≡ Done → (j : ℕ) → j < rows l → LeastRow (viewOf l) (cardRowAt (whole l c .card)) j
@@ -174,7 +166,7 @@ module _ (l c : List ℕ) (size : RightSize l) (room : HasRoom l (length c)) (a 
     where
       by-cases : Ended → drop (rows l * columnCount) (whole l c .card) ≡ drop (rows l * columnCount) c
       by-cases (accepted d f) = calculation-keeps l c (whole l c .card) f .past-rows
-      by-cases (refused-by x d z) = absurd (never-done z (sym d ∙ e))
+      by-cases (refused-by x d z) = absurd (refused-not-done z (sym d ∙ e))
 
 -- whatever is refused, the lent card is as it was lent
 kept-by :

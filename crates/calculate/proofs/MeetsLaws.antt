@@ -1,25 +1,25 @@
--- Settings that are least row by row meet every condition; and what meets the conditions still does where the rows below have a
--- lower pickup or a shorter delay.
+-- Settings that are least row by row meet every condition; what meets the conditions still does where the rows below have a lower
+-- pickup or a shorter delay; and where these have the same pickups, the cause that no pickup fits is the same.
 use mathlib.Core.Path.{_≡_}
 use Prim.Native.Nat.{ℕ, _≤_, _<_}
 use native.Mathlib.Nat.{mul-le-mul-right}
 use native.Mathlib.Omega.{arith}
 use Rattle.layout.specs.View.{View, Settings}
 use Rattle.answers.specs.declared.Cause.{Cause}
-use Rattle.settle.specs.Inequalities.{Feeding, AboveLoad, PickupMet, DelayMet, LeastAboveLoad, CauseIs, LeastRow}
+use Rattle.settle.specs.Inequalities.{Feeding, LowerMet, PickupMet, DelayMet, Candidate, CauseIs, LeastRow}
 use Rattle.settle.specs.Inequalities.CauseIs.{RANGE, OWN-ZONE, BACKUP}
 use Rattle.calculate.specs.Meets.{Meets}
 
 -- a lower pickup or a shorter delay below asks no more
 module _ (v : View) (k k′ : Settings) (i : ℕ) where
-  load-down :
-      (I : ℕ) → ((j : ℕ) → j < v .count → Feeding v i j → k j .pickup ≤ k′ j .pickup) → AboveLoad v k′ i I → AboveLoad v k i I
-  load-down I u m =
+  lower-down :
+      (I : ℕ) → ((j : ℕ) → j < v .count → Feeding v i j → k j .pickup ≤ k′ j .pickup) → LowerMet v k′ i I → LowerMet v k i I
+  lower-down I u m =
       record { P1 = m .P1; P2 = λ j h f. let q = mul-le-mul-right (v .row j .volts) (u j h f) in omega (arith, m .P2 j h f) }
 
   pub pickup-down :
       (I : ℕ) → ((j : ℕ) → j < v .count → Feeding v i j → k j .pickup ≤ k′ j .pickup) → PickupMet v k′ i I → PickupMet v k i I
-  pickup-down I u m = record { P1-P2 = load-down I u (m .P1-P2); P3 = m .P3; P4 = m .P4 }
+  pickup-down I u m = record { P1-P2 = lower-down I u (m .P1-P2); P3 = m .P3; P4 = m .P4 }
 
   pub delay-down :
       (t : ℕ) → ((j : ℕ) → j < v .count → Feeding v i j → k j .delay ≤ k′ j .delay) → DelayMet v k′ i t → DelayMet v k i t
@@ -35,24 +35,24 @@ module _ (v : View) (k k′ : Settings) (i : ℕ) where
 
 -- above fed rows with the same pickups the cause is the same
 module _ (v : View) (k k′ : Settings) (i : ℕ) (same : (j : ℕ) → j < v .count → Feeding v i j → k j .pickup ≡ k′ j .pickup) where
-  there : (I : ℕ) → AboveLoad v k i I → AboveLoad v k′ i I
-  there I = load-down v k′ k i I (λ j h f. let e = same j h f in omega arith)
+  lower-there : (I : ℕ) → LowerMet v k i I → LowerMet v k′ i I
+  lower-there I = lower-down v k′ k i I (λ j h f. let e = same j h f in omega arith)
 
-  back : (I : ℕ) → AboveLoad v k′ i I → AboveLoad v k i I
-  back I = load-down v k k′ i I (λ j h f. let e = same j h f in omega arith)
+  lower-back : (I : ℕ) → LowerMet v k′ i I → LowerMet v k i I
+  lower-back I = lower-down v k k′ i I (λ j h f. let e = same j h f in omega arith)
 
-  least-alike : (I : ℕ) → LeastAboveLoad v k i I → LeastAboveLoad v k′ i I
-  least-alike I m =
+  candidate-alike : (I : ℕ) → Candidate v k i I → Candidate v k′ i I
+  candidate-alike I m =
       record {
         available = m .available;
-        above-load = there I (m .above-load);
-        least = λ x a h. m .least x a (back x h);
+        lower-met = lower-there I (m .lower-met);
+        least = λ x a h. m .least x a (lower-back x h);
       }
 
   pub cause-alike : {why : Cause} → CauseIs v k i why → CauseIs v k′ i why
-  cause-alike (RANGE n) = RANGE (λ I a h. n I a (back I h))
-  cause-alike (OWN-ZONE I m n) = OWN-ZONE I (least-alike I m) n
-  cause-alike (BACKUP I j m z u) = BACKUP I j (least-alike I m) z u
+  cause-alike (RANGE n) = RANGE (λ I a h. n I a (lower-back I h))
+  cause-alike (OWN-ZONE I m n) = OWN-ZONE I (candidate-alike I m) n
+  cause-alike (BACKUP I j m z u) = BACKUP I j (candidate-alike I m) z u
 
 pub least-meets : (v : View) (k : Settings) → ((j : ℕ) → j < v .count → LeastRow v k j) → Meets v k
 least-meets v k all =

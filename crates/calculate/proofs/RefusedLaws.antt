@@ -6,13 +6,14 @@ use native.Mathlib.Nat.{zero-add}
 use native.Mathlib.Omega.{arith}
 use lib.ListN.{length}
 use Rattle.answers.specs.declared.Answer.{Answer}
-use Rattle.answers.specs.declared.Answer.the-variants.{Unsettled}
+use Rattle.answers.specs.declared.Answer.the-variants.{Done, Unsettled}
 use Rattle.answers.specs.declared.Reason.{Reason}
 use Rattle.answers.specs.declared.Reason.the-variants.{Pickup, Delay}
+use Rattle.answers.proofs.AnswerLaws.{unsettled-not-done}
 use Rattle.layout.specs.Card.{cardRowAt, putCardRow}
 use Rattle.layout.specs.Counts.{columnCount}
 use Rattle.layout.specs.List.{rows}
-use Rattle.layout.specs.View.{viewOf}
+use Rattle.layout.specs.View.{View, viewOf}
 use Rattle.layout.proofs.CardLaws.{putCardRow-length}
 use Rattle.layout.specs.Range.{AllBounded}
 use Rattle.rows.specs.InRange.{Feeds}
@@ -26,6 +27,11 @@ use Rattle.rowwise.proofs.EndLaws.{never-finished, same-refusal}
 use Rattle.calculate.specs.Refused.{UpTo, RefusedAt, NO-PICKUP, DELAY}
 use Rattle.calculate.specs.Whole.{calculation}
 use Rattle.calculate.proofs.SettledLaws.{Settles, next-settled}
+
+-- it is no acceptance
+pub refused-not-done : {v : View} {a : Answer} → RefusedAt v a → a ≡ Done → ⊥
+refused-not-done (NO-PICKUP k i why u n) e = unsettled-not-done e
+refused-not-done (DELAY k i u p n) e = unsettled-not-done e
 
 module _ (l : List ℕ) (a : AllBounded (viewOf l)) (b : Feeds l) where
   refused-from :

@@ -1,4 +1,4 @@
--- [01 §4] DEMAND 1, for a list lent as numbers: the answer that it gets, each number exactly where it is due, all that comes before it
+-- [01 §4], [02 §2] DEMAND 1, for a list lent as numbers: the answer that it gets, each number exactly where it is due, all that comes before it
 -- in the order (2, 3, 4 over all rows, 5 over all rows, then row by row 11, 12 or 13 before 7) absent. Definitions only.
 use mathlib.Core.List.{List}
 use Prim.Native.Nat.{ℕ, _+_}

@@ -9,7 +9,7 @@ use Rattle.layout.specs.Fields.{inBounds}
 use Rattle.rows.specs.Tests.{sizeTest, rowsTest, fieldRight, faultAfter, rowFault, feedsRight, treeAnswer, treeTest, fieldAnswer}
 use Rattle.settle.specs.Conditions.{returnsAfterSelfStart, clearOf, seesOwnZone, backsUp, withinDelays}
 use Rattle.settle.specs.Conditions.{margin, marginBetween, gradedAbove, staysClear, seesNear}
-use Rattle.settle.specs.Settle.{aboveLoad, unbacked, firstUnbacked, leastAboveLoad, backed, judged, picked}
+use Rattle.settle.specs.Settle.{meetsLower, unbacked, firstUnbacked, candidate, byBackup, judged, picked}
 use Rattle.settle.specs.Settle.{meetsDelay, fitting, cutoffOf, printed, shown, outcomeOf, settled}
 use Rattle.rowwise.specs.WorkOut.{onSettled, workOut, upFrom, onPassed}
 use Rattle.calculate.specs.Whole.{ending, calculation, whole}
@@ -22,8 +22,8 @@ use Rattle.path.specs.CardTest.{cardRight, cardAnswer, cardTest}
 
 pub more-cases : map (λ (w : Worked). comes (w .case)) moreTable ≡ map (λ (w : Worked). w .is) moreTable
 unfolding first sumTo every count valueAt leastOn sizeTest rowsTest inBounds fieldRight faultAfter rowFault feedsRight treeAnswer treeTest fieldAnswer
-    returnsAfterSelfStart clearOf seesOwnZone backsUp withinDelays margin marginBetween gradedAbove staysClear seesNear aboveLoad unbacked firstUnbacked
-    leastAboveLoad backed judged picked meetsDelay fitting cutoffOf
+    returnsAfterSelfStart clearOf seesOwnZone backsUp withinDelays margin marginBetween gradedAbove staysClear seesNear meetsLower unbacked firstUnbacked
+    candidate byBackup judged picked meetsDelay fitting cutoffOf
     printed shown outcomeOf settled putCardRow onSettled workOut upFrom ending calculation whole comes worked moreTable conditions faults ranges
     replacements gradings plant lent plantCard chain chainCard pathFrom pathOf putList editRight editTest cardRight cardAnswer cardTest onPassed
     reworked outcome replaced

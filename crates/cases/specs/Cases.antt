@@ -74,8 +74,8 @@ twoCard = 318000 ∷ 1900 ∷ 1300000 ∷ 360000 ∷ 2200 ∷ 4290000 ∷ []
 unfoldable pub laterCard : List ℕ
 laterCard = 318000 ∷ 1900 ∷ 1300000 ∷ 360000 ∷ 2400 ∷ 4290000 ∷ []
 
--- [02 §2] the list with row 2 offering pickups from 400,000 on only, and far so in row 1. By P4, 12 × 400,000 = 10 × 480,000; by P3 row 1
--- needs 477,000
+-- [02 §2] the list with row 2 offering pickups from 400,000 on only, and row 1 with this far. By P4, 12 × 400,000 = 10 × 480,000; by P3
+-- row 1 needs 477,000
 abbrev backedUp : ℕ → List ℕ
 backedUp far = set (set twoRows low2 400000) far1 far
 

@@ -67,12 +67,12 @@ conditions =
     -- the greatest pickup offered is the least that P2 allows, and one off
     ∷ done (with plant 3 13 152900) (cardOf 152900 500 0)
     ∷ refused (with plant 3 13 152899) 11 3 0
-    -- P3 and P4 one off; the motor backed too, and one off: it is named, or the line where that fails too
+    -- P3 and P4 one off; the motor backed too, and one off: it is named, or the line where that fails too, if by less
     ∷ refused (with plant 3 8 229349) 12 3 0
     ∷ refused (with plant 1 8 458699) 13 3 1
     ∷ done (with (with plant 2 18 1) 2 8 764500) plantCard
     ∷ refused (with (with plant 2 18 1) 2 8 764499) 13 3 2
-    ∷ refused (with (with (with plant 2 18 1) 2 8 700000) 1 8 458699) 13 3 1
+    ∷ refused (with (with (with plant 2 18 1) 2 8 650000) 1 8 458699) 13 3 1
     -- the line not backed needs no such far
     ∷ done (with (with plant 1 18 0) 1 8 458699) plantCard
     -- D2: 0 + 500 above row 1, by its device; with device 1 there, 100 + 300 above row 2, by row 3's own; with device 2 in row 2,
@@ -172,6 +172,9 @@ replacements =
     -- the transformer by itself
     ∷ becomes plant plantCard 3 (with plant 3 16 500) plantCard
     ∷ becomes plant plantCard 3 (with plant 3 10 605799) (cardOf 152900 500 0)
+    -- offering pickups from 162,900 on: P4 asks 12 × 162,900 × 25,000 = 10 × 488,700 × 10,000 of the line, which is off its path
+    ∷ becomes (with plant 1 8 488700) plantCard 3 (with (with (with plant 1 8 488700) 3 12 162900) 3 8 300000) (cardOf 162900 500 302900)
+    ∷ keptIn (with plant 1 8 488699) plantCard 3 (row 3 (with (with plant 3 12 162900) 3 8 300000)) 13 3 1
     -- a card that does not belong to the list: the motor's row is read as it is found, those of the path are not read. P2:
     -- 11 × (300,000 × 6,000 + 100,000 × 10,000) / (10 × 25,000) = 123,200, so 132,900
     ∷ becomes plant (found 300000) 1 plant

@@ -4,10 +4,9 @@ use mathlib.Core.List.{List}
 use Prim.Native.Nat.{ℕ, _-_, _*_, _≤_, _<_}
 use lib.ListN.{length}
 use Rattle.answers.specs.declared.Answer.{Answer}
-use Rattle.answers.specs.declared.Answer.the-variants.{Done, Unsettled}
-use Rattle.answers.specs.declared.Reason.{Reason}
+use Rattle.answers.specs.declared.Answer.the-variants.{Done}
 use Rattle.answers.specs.declared.Tested.the-variants.{Passed}
-use Rattle.fold.proofs.BoolLaws.{zero-not-one}
+use Rattle.answers.proofs.AnswerLaws.{unsettled-not-done}
 use Rattle.layout.specs.Card.{cardRowAt}
 use Rattle.layout.specs.Counts.{columnCount}
 use Rattle.layout.specs.List.{rows}
@@ -30,9 +29,6 @@ use Rattle.change.specs.Replace.{Replaced, reworked, outcome, replaced}
 use Rattle.change.proofs.AlongLaws.{Climbed, climbed}
 use Rattle.change.proofs.EditedLaws.{edited-rows, edited-is-row}
 use Rattle.change.proofs.SeriesLaws.{replaced-edited}
-
-unsettled-not-done : {row : ℕ} {why : Reason} → Unsettled row why ≡ Done → ⊥
-unsettled-not-done e = zero-not-one cc
 
 -- a refusal along the path is no Done
 pub refused-not-done : {l : List ℕ} {i : ℕ} {c : List ℕ} {x : Answer} → PathRefused l i c x → x ≡ Done → ⊥

@@ -12,7 +12,7 @@ use Rattle.answers.specs.declared.Answer.the-variants.{Done, Count, Room, Edit}
 use Rattle.answers.specs.declared.Tested.{Tested}
 use Rattle.answers.specs.declared.Tested.the-variants.{Passed, Refused}
 use Rattle.answers.specs.Answer.{numberOf}
-use Rattle.answers.proofs.AnswerLaws.{unsettled-not-done, unsettled-not-edit}
+use Rattle.answers.proofs.AnswerLaws.{unsettled-not-0, unsettled-not-10}
 use Rattle.layout.specs.declared.CardRow.{CardRow}
 use Rattle.layout.specs.Card.{cardRowAt, putCardRow}
 use Rattle.layout.specs.Counts.{fieldCount, columnCount, listMost}
@@ -90,7 +90,7 @@ work-later l (i ∷ is) c a e = by-cases (settled (viewOf l) (cardRowAt c) i) e 
         ((k : CardRow) → workOut l is (putCardRow c i k) ≡ refused a → Later a) → Later a
     by-cases (Set o) e ih = ih (shown o) e
     by-cases (Unset why) e ih =
-        subst Later (same-refusal e) (record { refuses = record { not-done = unsettled-not-done (i + 1) why }; not-edit = unsettled-not-edit (i + 1) why })
+        subst Later (same-refusal e) (record { refuses = record { not-done = unsettled-not-0 (i + 1) why }; not-edit = unsettled-not-10 (i + 1) why })
 
 -- a refusal after a test is the test's or what comes next's
 module _ (t : Tested) (w : Worked) where

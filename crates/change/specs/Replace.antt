@@ -1,4 +1,4 @@
--- [01 §4] The replacement of one row of a list lent as numbers, on a card lent as numbers: the answer, and the list and
+-- [01 §4], [02 §2] The replacement of one row of a list lent as numbers, on a card lent as numbers: the answer, and the list and
 -- the card afterwards. The order is 2, 3, 10, then 4 and 5 over the list as it would be, then 9 over all rows, then 11,
 -- 12 or 13 before 7 along the path, the card rows off the path read as they are found. A refusal leaves list and card. Definitions only.
 use mathlib.Core.List.{List}

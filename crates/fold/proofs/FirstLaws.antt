@@ -10,7 +10,7 @@ use Rattle.fold.specs.declared.Found.the-variants.{At, Nothing}
 use Rattle.fold.specs.First.{first}
 use Rattle.fold.proofs.BoolLaws.{passes-or-fails, zero-not-one}
 
--- tests that agree on the n numbers from i on find the same
+-- tests that agree below i + n find the same
 pub first-same : (ok ok′ : ℕ → Bool) (n i : ℕ) → ((j : ℕ) → j < i + n → ok j ≡ ok′ j) → first ok i n ≡ first ok′ i n
 unfolding first
 first-same ok ok′ zero i h = refl

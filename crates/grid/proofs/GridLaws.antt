@@ -1,6 +1,6 @@
 -- Laws of `leastOn`: available, passing, and no other available value that passes is less.
 use mathlib.Core.Path.{_≡_, refl, sym, ap, _∙_}
-use mathlib.Core.Bool.{Bool, true, false, cond, _&&_}
+use mathlib.Core.Bool.{Bool, true, false}
 use mathlib.Core.Logic.{⊎-elim}
 use Prim.Native.Nat.{ℕ, _+_, _-_, _*_, _/_, _%_, _≤_, _<_, max}
 use native.Mathlib.Nat.{le-div-iff-mul-le, suc-mul, mul-le-mul-right, div-zero, div-add-mod', mod-lt, add-mul, one-mul, le-max-left, le-max-right, max-le}
@@ -11,7 +11,7 @@ use Rattle.fold.specs.declared.Found.{Found}
 use Rattle.fold.specs.declared.Found.the-variants.{At, Nothing}
 use Rattle.fold.specs.First.{first}
 use Rattle.grid.specs.Grid.{Available, Least, count, valueAt, leastOn}
-use Rattle.fold.proofs.BoolLaws.{passes-or-fails, lt-or-le, not-both, fails, and-left, and-right, and-both, zero-not-one}
+use Rattle.fold.proofs.BoolLaws.{lt-or-le, not-both, fails, zero-not-one}
 use Rattle.fold.proofs.FirstLaws.{first-at, first-nothing}
 
 -- m steps are available exactly where they end at or below high

@@ -7,7 +7,7 @@ use Rattle.grid.specs.Grid.{count, valueAt, leastOn}
 use Rattle.settle.specs.Cases.{network, below, conditions, same, settlings, all}
 use Rattle.settle.specs.Conditions.{returnsAfterSelfStart, clearOf, seesOwnZone, backsUp, withinDelays}
 use Rattle.settle.specs.Conditions.{margin, marginBetween, gradedAbove, staysClear, seesNear}
-use Rattle.settle.specs.Settle.{aboveLoad, unbacked, firstUnbacked, leastAboveLoad, backed, judged, picked}
+use Rattle.settle.specs.Settle.{meetsLower, unbacked, firstUnbacked, candidate, byBackup, judged, picked}
 use Rattle.settle.specs.Settle.{meetsDelay, fitting, cutoffOf, printed, shown, outcomeOf, settled}
 
 pub condition-cases : all conditions ≡ true
@@ -17,6 +17,6 @@ condition-cases = refl
 
 pub settling-cases : all settlings ≡ true
 unfolding all same settlings network below first sumTo every count valueAt leastOn returnsAfterSelfStart clearOf seesOwnZone backsUp withinDelays margin
-    marginBetween gradedAbove staysClear seesNear aboveLoad unbacked firstUnbacked leastAboveLoad backed judged picked meetsDelay fitting cutoffOf
+    marginBetween gradedAbove staysClear seesNear meetsLower unbacked firstUnbacked candidate byBackup judged picked meetsDelay fitting cutoffOf
     printed shown outcomeOf settled
 settling-cases = refl

@@ -1,19 +1,20 @@
 -- [02 §2] Why no pickup fits a row. The step above 0 is section 2's. Read with specs/Inequalities.antt.
---     least-exactly       `leastAboveLoad` is the least available pickup meeting P1 and P2, or there is none
---     cause-exactly       RANGE, OWN ZONE and BACKUP are given exactly where they are due
---     cause-one           and there is one only
---     fits-exactly        otherwise that pickup fits: it meets P3 and P4
---     exists-exactly      some available pickup meets P1 to P4 exactly when none of the three applies
---     range-exactly       RANGE is given exactly where no available pickup meets P1 and P2 (SettledTheorems.antt)
---     own-zone-true, backup-true      where P3, or P4 for a fed row, fails for the least, it fails for every available pickup meeting P1 and P2
+--     candidate-exactly, no-candidate-exactly     `candidate` is the least available pickup meeting P1 and P2, or there is none
+--     cause-exactly               RANGE, OWN ZONE and BACKUP are given exactly where they are due
+--     cause-one                   there is one only
+--     fits-exactly                otherwise the candidate fits: it meets P3 and P4
+--     exists-exactly              some available pickup meets P1 to P4 exactly when none of the three applies
+--     none-exists-exactly         none does exactly when one of them applies
+--     own-zone-true, backup-true  where P3, or P4 for a fed row, fails for the candidate, it fails for every available pickup meeting P1 and P2
+-- Of a row's settling, SettledTheorems.antt says the same: `no-pickup-exactly`, `range-exactly`.
 use mathlib.Core.Path.{_≡_, refl, sym, _∙_, subst}
 use mathlib.Core.Bool.{true, false}
 use mathlib.Core.Logic.{_↔_, _⊎_, inl, inr, ⊎-elim}
-use Prim.Native.Nat.{ℕ, _+_, _≤_, _<_}
+use Prim.Native.Nat.{ℕ, _≤_, _<_}
 use native.Mathlib.Nat.{mul-le-mul-left, mul-le-mul-right, le-trans}
 use native.Mathlib.Omega.{arith}
 use Rattle.answers.specs.declared.Cause.{Cause}
-use Rattle.answers.specs.declared.Cause.the-variants.{Range, OwnZone, Backup}
+use Rattle.answers.specs.declared.Cause.the-variants.{Range}
 use Rattle.fold.specs.declared.Found.{Found}
 use Rattle.fold.specs.declared.Found.the-variants.{At, Nothing}
 use Rattle.fold.proofs.BoolLaws.{passes-or-fails, fails, not-both, zero-not-one, lt-or-le}
@@ -22,12 +23,12 @@ use Rattle.layout.specs.View.{View, Settings}
 use Rattle.settle.specs.declared.Picked.{Picked}
 use Rattle.settle.specs.declared.Picked.the-variants.{Fits, Unfit}
 use Rattle.settle.specs.Conditions.{seesOwnZone}
-use Rattle.settle.specs.Inequalities.{AvailableOn, Feeding, AboveLoad, SeesOwnZone, BacksUp, PickupMet, SomePickup, NoPickup}
-use Rattle.settle.specs.Inequalities.{LeastAboveLoad, NoneAboveLoad, CauseIs}
+use Rattle.settle.specs.Inequalities.{AvailableOn, LowerMet, SeesOwnZone, BacksUp, PickupMet, SomePickup, NoPickup}
+use Rattle.settle.specs.Inequalities.{Candidate, NoCandidate, CauseIs}
 use Rattle.settle.specs.Inequalities.CauseIs.{RANGE, OWN-ZONE, BACKUP}
-use Rattle.settle.specs.Settle.{aboveLoad, firstUnbacked, leastAboveLoad, backed, judged, picked, pickupOf}
+use Rattle.settle.specs.Settle.{meetsLower, firstUnbacked, candidate, byBackup, judged, picked, pickupOf}
 use Rattle.settle.proofs.ConditionTheorems.{P3-exactly}
-use Rattle.settle.proofs.MeetsTheorems.{load-exactly, unbacked-exactly, backed-all-exactly}
+use Rattle.settle.proofs.MeetsTheorems.{lower-exactly, unbacked-exactly, backed-all-exactly}
 
 -- a lower pickup sees what a higher one sees
 module _ (v : View) (i : ℕ) {I x : ℕ} (le : I ≤ x) where
@@ -40,16 +41,16 @@ module _ (v : View) (i : ℕ) {I x : ℕ} (le : I ≤ x) where
 module _ (v : View) (k : Settings) (i : ℕ) where
   -- the cause is the true one: no other available pickup that meets P1 and P2 would do
   pub own-zone-true :
-      (I : ℕ) → LeastAboveLoad v k i I → (SeesOwnZone v i I → ⊥) →
-      (x : ℕ) → AvailableOn (v .row i) x → AboveLoad v k i x → SeesOwnZone v i x → ⊥
+      (I : ℕ) → Candidate v k i I → (SeesOwnZone v i I → ⊥) →
+      (x : ℕ) → AvailableOn (v .row i) x → LowerMet v k i x → SeesOwnZone v i x → ⊥
   own-zone-true I m n x a h z = n (zone-down v i (m .least x a h) z)
 
   pub backup-true :
-      (I j : ℕ) → LeastAboveLoad v k i I → (BacksUp v i j I → ⊥) →
-      (x : ℕ) → AvailableOn (v .row i) x → AboveLoad v k i x → BacksUp v i j x → ⊥
+      (I j : ℕ) → Candidate v k i I → (BacksUp v i j I → ⊥) →
+      (x : ℕ) → AvailableOn (v .row i) x → LowerMet v k i x → BacksUp v i j x → ⊥
   backup-true I j m n x a h b = n (backup-down v i (m .least x a h) j b)
 
-  pub range-means : {why : Cause} → why ≡ Range → CauseIs v k i why → NoneAboveLoad v k i
+  pub range-means : {why : Cause} → why ≡ Range → CauseIs v k i why → NoCandidate v k i
   range-means e (RANGE n) = n
   range-means e (OWN-ZONE I m n) = absurd (zero-not-one cc)
   range-means e (BACKUP I j m z u) = absurd (zero-not-one cc)
@@ -62,13 +63,13 @@ module _ (v : View) (k : Settings) (i : ℕ) where
       backup-true I j m (u .fails) x a (h .P1-P2) (h .P4 j (u .is-row) (u .feeding))
 
   -- the least pickup that meets P1 to P4 is the least that meets P1 and P2
-  pub least-above-load :
+  pub least-candidate :
       (I : ℕ) → AvailableOn (v .row i) I → PickupMet v k i I → ((x : ℕ) → AvailableOn (v .row i) x → PickupMet v k i x → I ≤ x) →
-      LeastAboveLoad v k i I
-  least-above-load I a h least =
+      Candidate v k i I
+  least-candidate I a h least =
       record {
         available = a;
-        above-load = h .P1-P2;
+        lower-met = h .P1-P2;
         least =
             λ x b l.
             ⊎-elim
@@ -84,62 +85,62 @@ module _ (v : View) (k : Settings) (i : ℕ) where
       }
 
 module _ (v : View) (k : Settings) (i : ℕ) (p : 0 < v .row i .step) where
-  pub least-exactly : (I : ℕ) → (leastAboveLoad v k i ≡ At I) ↔ LeastAboveLoad v k i I
-  unfolding leastAboveLoad
-  least-exactly I = (
+  pub candidate-exactly : (I : ℕ) → (candidate v k i ≡ At I) ↔ Candidate v k i I
+  unfolding candidate
+  candidate-exactly I = (
     λ e.
-        let m = leastOn-least _ _ _ p (aboveLoad v k i) I e in
+        let m = leastOn-least _ _ _ p (meetsLower v k i) I e in
         record {
           available = m .available;
-          above-load = load-exactly v k i I .0 (m .passes);
-          least = λ x a h. m .least x a (load-exactly v k i x .1 h);
+          lower-met = lower-exactly v k i I .0 (m .passes);
+          least = λ x a h. m .least x a (lower-exactly v k i x .1 h);
         },
     λ m.
-        leastOn-is _ _ _ p (aboveLoad v k i) I
+        leastOn-is _ _ _ p (meetsLower v k i) I
         (record {
           available = m .available;
-          passes = load-exactly v k i I .1 (m .above-load);
-          least = λ x a t. m .least x a (load-exactly v k i x .0 t);
+          passes = lower-exactly v k i I .1 (m .lower-met);
+          least = λ x a t. m .least x a (lower-exactly v k i x .0 t);
         }),
   )
 
-  pub none-exactly : (leastAboveLoad v k i ≡ Nothing) ↔ NoneAboveLoad v k i
-  unfolding leastAboveLoad
-  none-exactly = (
-    λ e I a h. not-both (load-exactly v k i I .1 h) (leastOn-nothing _ _ _ p (aboveLoad v k i) e I a),
-    λ n. leastOn-none _ _ _ p (aboveLoad v k i) (λ I a. fails (aboveLoad v k i I) (λ t. n I a (load-exactly v k i I .0 t))),
+  pub no-candidate-exactly : (candidate v k i ≡ Nothing) ↔ NoCandidate v k i
+  unfolding candidate
+  no-candidate-exactly = (
+    λ e I a h. not-both (lower-exactly v k i I .1 h) (leastOn-nothing _ _ _ p (meetsLower v k i) e I a),
+    λ n. leastOn-none _ _ _ p (meetsLower v k i) (λ I a. fails (meetsLower v k i I) (λ t. n I a (lower-exactly v k i I .0 t))),
   )
 
   -- what it comes to: the least pickup meeting P1 and P2 also meets P3 and P4, or the cause is so
   abbrev Comes : Picked → Type 0
-  Comes (Fits I) = LeastAboveLoad v k i I × PickupMet v k i I
+  Comes (Fits I) = Candidate v k i I × PickupMet v k i I
   Comes (Unfit why) = CauseIs v k i why
 
   comes : Comes (pickupOf v k i)
-  unfolding picked judged backed
-  comes = by-least (leastAboveLoad v k i) refl
+  unfolding picked judged byBackup
+  comes = by-least (candidate v k i) refl
     where
-      by-fed : (I : ℕ) → LeastAboveLoad v k i I → SeesOwnZone v i I → (f : Found) → firstUnbacked v i (v .row i) I ≡ f → Comes (backed I f)
-      by-fed I m z Nothing e = (m, record { P1-P2 = m .above-load; P3 = z; P4 = backed-all-exactly v i I .0 e })
+      by-fed : (I : ℕ) → Candidate v k i I → SeesOwnZone v i I → (f : Found) → firstUnbacked v i (v .row i) I ≡ f → Comes (byBackup I f)
+      by-fed I m z Nothing e = (m, record { P1-P2 = m .lower-met; P3 = z; P4 = backed-all-exactly v i I .0 e })
       by-fed I m z (At j) e = BACKUP I j m z (unbacked-exactly v i I j .0 e)
 
-      by-least : (f : Found) → leastAboveLoad v k i ≡ f → Comes (picked (v .row i) f (firstUnbacked v i (v .row i)))
-      by-least Nothing e = RANGE (none-exactly .0 e)
+      by-least : (f : Found) → candidate v k i ≡ f → Comes (picked (v .row i) f (firstUnbacked v i (v .row i)))
+      by-least Nothing e = RANGE (no-candidate-exactly .0 e)
       by-least (At I) e =
           ⊎-elim
           (λ (z : seesOwnZone (v .row i) I ≡ true).
-          rw z (by-fed I (least-exactly I .0 e) (P3-exactly (v .row i) I .0 z) (firstUnbacked v i (v .row i) I) refl))
+          rw z (by-fed I (candidate-exactly I .0 e) (P3-exactly (v .row i) I .0 z) (firstUnbacked v i (v .row i) I) refl))
           (λ (z : seesOwnZone (v .row i) I ≡ false).
-          rw z (OWN-ZONE I (least-exactly I .0 e) (λ s. not-both (P3-exactly (v .row i) I .1 s) z)))
+          rw z (OWN-ZONE I (candidate-exactly I .0 e) (λ s. not-both (P3-exactly (v .row i) I .1 s) z)))
           (passes-or-fails (seesOwnZone (v .row i) I))
 
   of-cause : {why : Cause} → CauseIs v k i why → pickupOf v k i ≡ Unfit why
-  unfolding picked judged backed
-  of-cause (RANGE n) = rw (none-exactly .1 n)
+  unfolding picked judged byBackup
+  of-cause (RANGE n) = rw (no-candidate-exactly .1 n)
   of-cause (OWN-ZONE I m n) =
-      rw (least-exactly I .1 m, fails (seesOwnZone (v .row i) I) (λ t. n (P3-exactly (v .row i) I .0 t)))
+      rw (candidate-exactly I .1 m, fails (seesOwnZone (v .row i) I) (λ t. n (P3-exactly (v .row i) I .0 t)))
   of-cause (BACKUP I j m z u) =
-      rw (least-exactly I .1 m, P3-exactly (v .row i) I .1 z, unbacked-exactly v i I j .1 u)
+      rw (candidate-exactly I .1 m, P3-exactly (v .row i) I .1 z, unbacked-exactly v i I j .1 u)
 
   pub cause-exactly : (why : Cause) → (pickupOf v k i ≡ Unfit why) ↔ CauseIs v k i why
   cause-exactly why = (λ e. subst Comes e comes, of-cause)
@@ -151,12 +152,12 @@ module _ (v : View) (k : Settings) (i : ℕ) (p : 0 < v .row i .step) where
       same : {why why′ : Cause} → Unfit why ≡ Unfit why′ → why ≡ why′
       same e = cc
 
-  pub fits-exactly : (I : ℕ) → (pickupOf v k i ≡ Fits I) ↔ (LeastAboveLoad v k i I × PickupMet v k i I)
-  unfolding picked judged backed
+  pub fits-exactly : (I : ℕ) → (pickupOf v k i ≡ Fits I) ↔ (Candidate v k i I × PickupMet v k i I)
+  unfolding picked judged byBackup
   fits-exactly I = (λ e. subst Comes e comes, of-fits)
     where
-      of-fits : LeastAboveLoad v k i I × PickupMet v k i I → pickupOf v k i ≡ Fits I
-      of-fits m = rw (least-exactly I .1 (m .0), P3-exactly (v .row i) I .1 (m .1 .P3), backed-all-exactly v i I .1 (m .1 .P4))
+      of-fits : Candidate v k i I × PickupMet v k i I → pickupOf v k i ≡ Fits I
+      of-fits m = rw (candidate-exactly I .1 (m .0), P3-exactly (v .row i) I .1 (m .1 .P3), backed-all-exactly v i I .1 (m .1 .P4))
 
   -- where some pickup meets P1 to P4, one fits
   pub fits-some : SomePickup v k i → (I : ℕ) × (pickupOf v k i ≡ Fits I)

@@ -1,28 +1,36 @@
 -- Settling a row by the four numbers gathered from its fed rows is settling it by section 3.
-use mathlib.Core.Path.{_≡_, refl, sym, ap, ap₂, _∙_}
-use mathlib.Core.Bool.{Bool, true, false, not, cond, _&&_, _||_, and-false, and-true}
-use mathlib.Core.Logic.{_⊎_, inl, inr, ⊎-elim}
+use mathlib.Core.Path.{_≡_, refl, sym, ap, _∙_}
+use mathlib.Core.Bool.{Bool, true, false, not, cond, _&&_, and-false, and-true}
+use mathlib.Core.Logic.{_↔_, _⊎_, inl, inr, ⊎-elim}
 use Prim.Native.Nat.{ℕ, _+_, _-_, _*_, _≤_, _<_}
 use native.Mathlib.Nat.{mul-le-mul, mul-le-mul-left, mul-assoc, le-trans}
 use native.Mathlib.Omega.{arith}
 use lib.Dec.{leb, eqb}
-use borrow.Author.Tests.{le-leb, leb-true, eq-eqb, ne-eqb, eqb-true}
+use borrow.Author.Tests.{le-leb, leb-true, eq-eqb, ne-eqb, eqb-true, eqb-false}
 use Rattle.fold.specs.Fold.{maxTo}
-use Rattle.fold.proofs.BoolLaws.{passes-or-fails, implied, same-test}
+use Rattle.fold.proofs.BoolLaws.{passes-or-fails, same-test}
 use Rattle.fold.proofs.FoldLaws.{Attained, maxTo-attained, le-maxTo, sumTo-zero, sumTo-others}
-use Rattle.grid.proofs.GridLaws.{leastOn-same}
+use Rattle.layout.specs.declared.Row.{Row}
 use Rattle.layout.specs.View.{View, Settings}
 use Rattle.layout.specs.Range.{AllBounded}
-use Rattle.settle.specs.Conditions.{fed, eachFed, loadOf, othersLoad, returnsAfterSelfStart, clearOf, seesOwnZone, backsUp, withinDelays, gradedAbove}
-use Rattle.settle.specs.Fed.{reach, excess, shortfall, earliest, gathered, clearOfAll, backsUpAll, unbackedBy, aboveLoadBy, pickedBy, delayBy, settledBy}
-use Rattle.settle.specs.Settle.{aboveLoad, firstUnbacked, leastPickup, leastAboveLoad, picked, meetsDelay, leastDelay, outcomeOf, settled}
-use Rattle.settle.proofs.ConditionTheorems.{P2-exactly, P4-exactly, fed-exactly}
+use Rattle.settle.specs.Conditions.{fed, eachFed, loadOf, othersLoad, returnsAfterSelfStart, clearOf, withinDelays, gradedAbove}
+use Rattle.settle.specs.Fed.{reach, excess, shortfall, earliest, gathered, clearOfAll, backsUpAll, unbackedBy, lowerBy, pickedBy, delayBy, settledBy}
+use Rattle.settle.specs.Inequalities.{Feeding, BacksUp}
+use Rattle.settle.specs.Settle.{meetsLower, firstUnbacked, leastPickup, candidate, picked, meetsDelay, leastDelay, outcomeOf, settled}
+use Rattle.settle.proofs.ConditionTheorems.{P2-exactly, fed-exactly}
 use Rattle.settle.proofs.MeetsTheorems.{each-fed-at, each-fed-of, backed-all-exactly}
 use Rattle.settle.proofs.PickupLaws.{current-volts, load-bounded}
 
 -- a number that counts only for fed rows
 counted-fed : {b : Bool} (x : ℕ) → b ≡ true → cond b x 0 ≡ x
 counted-fed x e = rw e
+
+-- a row's shortfall counts only where it is backed
+shortfall-backed : (f : Row) → f .backed ≡ 1 → shortfall f ≡ reach - f .far * f .volts
+shortfall-backed f e = ap (λ (b : Bool). cond b (reach - f .far * f .volts) 0) (eq-eqb (f .backed) 1 e)
+
+shortfall-none : (f : Row) → (f .backed ≡ 1 → ⊥) → shortfall f ≡ 0
+shortfall-none f n = ap (λ (b : Bool). cond b (reach - f .far * f .volts) 0) (ne-eqb (f .backed) 1 n)
 
 -- the greatest of the numbers that count is 0 or one of them
 record Greatest (on : ℕ → Bool) (f : ℕ → ℕ) (n m : ℕ) : Type 0 where
@@ -96,35 +104,53 @@ module _ (v : View) (a : AllBounded v) (k : Settings) (i : ℕ) (h : i < v .coun
   pub clear-of-all : (I : ℕ) → clearOfAll (v .row i) (gathered v k i) I ≡ eachFed v i (λ j. clearOf v k i j I)
   clear-of-all I = same-test _ _ (clear-each I) (λ t. unfold clearOfAll in le-leb _ _ (clear-greatest I t))
 
-  -- P4 for every fed row that is backed, where it holds for the greatest shortfall
+  -- P4 for every fed row, and for the greatest shortfall
   far-to : (j : ℕ) → j < v .count → v .row j .far * v .row j .volts ≤ 50000000000000
   far-to j b = let q = a j b in current-volts (q .far-to) (q .volts-to)
 
-  backs-each : (I : ℕ) → backsUpAll (v .row i) (gathered v k i) I ≡ true → eachFed v i (λ j. backsUp (v .row i) (v .row j) I) ≡ true
-  unfolding backsUpAll backsUp
-  backs-each I t =
-      each-fed-of v i (λ j. backsUp (v .row i) (v .row j) I)
-      (λ j b g.
-      implied (eqb (v .row j .backed) 1) (leb (12 * I * v .row i .volts) (10 * v .row j .far * v .row j .volts))
-      (λ backed.
-      let m = le-maxTo (λ j. cond (fed v i j) (shortfall (v .row j)) 0) (v .count) j b in
-      let s : shortfall (v .row j) ≡ reach - v .row j .far * v .row j .volts = rw backed in
-      let c = leb-true (12 * I * v .row i .volts) (10 * (reach - gathered v k i .shortfall)) t in
-      le-leb (12 * I * v .row i .volts) (10 * v .row j .far * v .row j .volts)
-      (omega (arith, mul-assoc 10 (v .row j .far) (v .row j .volts), far-to j b, counted-fed (shortfall (v .row j)) g))))
+  backs-each : (I : ℕ) → backsUpAll (v .row i) (gathered v k i) I ≡ true → (j : ℕ) → j < v .count → Feeding v i j → BacksUp v i j I
+  unfolding backsUpAll
+  backs-each I t j b f backed =
+      let r = v .row j in
+      omega (
+        arith,
+        leb-true (12 * I * v .row i .volts) (10 * (reach - gathered v k i .shortfall)) t,
+        le-maxTo (λ j. cond (fed v i j) (shortfall (v .row j)) 0) (v .count) j b,
+        counted-fed (shortfall r) (fed-exactly v i j .1 f),
+        shortfall-backed r backed,
+        mul-assoc 10 (r .far) (r .volts),
+        far-to j b,
+      )
 
-  -- where it holds for the greatest shortfall, no fed row is left to look for
+  backs-greatest :
+      (I : ℕ) → I ≤ 100000000 → ((j : ℕ) → j < v .count → Feeding v i j → BacksUp v i j I) →
+      12 * I * v .row i .volts ≤ 10 * (reach - gathered v k i .shortfall)
+  backs-greatest I b all =
+      let most : 12 * I * v .row i .volts ≤ 600000000000000 = mul-le-mul (mul-le-mul-left 12 b) (a i h .volts-to) in
+      ⊎-elim
+      (λ z. omega arith)
+      (λ m.
+      let r = v .row (m .at) in
+      ⊎-elim
+      (λ (backed : eqb (r .backed) 1 ≡ true).
+      let e = eqb-true (r .backed) 1 backed in
+      let c = all (m .at) (m .below) (fed-exactly v i (m .at) .0 (m .counts)) e in
+      omega (arith, shortfall-backed r e, mul-assoc 10 (r .far) (r .volts), m .is, far-to (m .at) (m .below)))
+      (λ (backed : eqb (r .backed) 1 ≡ false). omega (arith, shortfall-none r (eqb-false (r .backed) 1 backed), m .is))
+      (passes-or-fails (eqb (r .backed) 1)))
+      (greatest (fed v i) (λ j. shortfall (v .row j)) (v .count))
+
+  pub backs-all-exactly :
+      (I : ℕ) → I ≤ 100000000 → (backsUpAll (v .row i) (gathered v k i) I ≡ true) ↔ ((j : ℕ) → j < v .count → Feeding v i j → BacksUp v i j I)
+  unfolding backsUpAll
+  backs-all-exactly I b = (backs-each I, λ all. le-leb _ _ (backs-greatest I b all))
+
+  -- so the fed rows are gone through only where one of them fails P4, and the row is refused
   backs-found : (I : ℕ) → unbackedBy v i (v .row i) (gathered v k i) I ≡ firstUnbacked v i (v .row i) I
   unfolding unbackedBy
   backs-found I =
       ⊎-elim
-      (λ (t : backsUpAll (v .row i) (gathered v k i) I ≡ true).
-      rw t
-      (sym
-      (backed-all-exactly v i I .1
-      (λ j b f.
-      P4-exactly (v .row i) (v .row j) I .0
-      (each-fed-at v i (λ j. backsUp (v .row i) (v .row j) I) (backs-each I t) j b (fed-exactly v i j .1 f))))))
+      (λ (t : backsUpAll (v .row i) (gathered v k i) I ≡ true). rw t (sym (backed-all-exactly v i I .1 (backs-each I t))))
       (λ (t : backsUpAll (v .row i) (gathered v k i) I ≡ false). rw t)
       (passes-or-fails (backsUpAll (v .row i) (gathered v k i) I))
 
@@ -158,7 +184,7 @@ module _ (v : View) (a : AllBounded v) (k : Settings) (i : ℕ) (h : i < v .coun
 
   -- a row settled by the four numbers is settled by section 3
   pub settled-by : settledBy v i (v .row i) (gathered v k i) ≡ settled v k i
-  unfolding settledBy pickedBy aboveLoadBy settled leastAboveLoad aboveLoad delayBy meetsDelay
+  unfolding settledBy pickedBy lowerBy settled candidate meetsLower delayBy meetsDelay
   settled-by =
       λ t.
       outcomeOf (v .row i)

@@ -12,8 +12,8 @@ use Rattle.fold.proofs.FirstLaws.{first-at, first-is, first-none, first-nothing
 use Rattle.fold.proofs.FoldLaws.{every-at, every-of}
 use Rattle.layout.specs.View.{View, Settings}
 use Rattle.settle.specs.Conditions.{fed, eachFed, returnsAfterSelfStart, clearOf, backsUp, withinDelays, gradedAbove}
-use Rattle.settle.specs.Inequalities.{Feeding, AboveLoad, BacksUp, FirstUnbacked, DelayMet}
-use Rattle.settle.specs.Settle.{aboveLoad, unbacked, firstUnbacked, meetsDelay}
+use Rattle.settle.specs.Inequalities.{Feeding, LowerMet, BacksUp, FirstUnbacked, DelayMet}
+use Rattle.settle.specs.Settle.{meetsLower, unbacked, firstUnbacked, meetsDelay}
 use Rattle.settle.proofs.ConditionTheorems.{P1-exactly, P2-exactly, P4-exactly, D1-exactly, D2-exactly, fed-exactly}
 
 -- what holds for each fed row
@@ -32,9 +32,9 @@ each-fed v i ok = (
 )
 
 module _ (v : View) (k : Settings) (i : ℕ) where
-  pub load-exactly : (I : ℕ) → (aboveLoad v k i I ≡ true) ↔ AboveLoad v k i I
-  unfolding aboveLoad
-  load-exactly I = (
+  pub lower-exactly : (I : ℕ) → (meetsLower v k i I ≡ true) ↔ LowerMet v k i I
+  unfolding meetsLower
+  lower-exactly I = (
     λ t.
         record {
           P1 = P1-exactly (v .row i) I .0 (and-left (returnsAfterSelfStart (v .row i) I) _ t);

@@ -1,11 +1,10 @@
 -- The cutoff, a row's pickup and its outcome, one law for each way that they end.
 use mathlib.Core.Path.{_≡_, refl, sym, ap, _∙_}
 use mathlib.Core.Bool.{Bool, true, false, cond}
-use Prim.Native.Nat.{ℕ, _*_, _≤_, _<_}
+use Prim.Native.Nat.{ℕ, _*_, _<_}
 use native.Mathlib.Nat.{mul-comm, le-trans}
 use native.Mathlib.Omega.{arith}
 use lib.Dec.{leb, eqb}
-use borrow.Author.Tests.{eq-eqb, ne-eqb}
 use Rattle.fold.proofs.BoolLaws.{zero-not-one}
 use Rattle.fold.proofs.FirstLaws.{first-below}
 use Rattle.answers.specs.declared.Cause.{Cause}
@@ -27,8 +26,8 @@ use Rattle.settle.specs.declared.Picked.{Picked}
 use Rattle.settle.specs.declared.Picked.the-variants.{Fits, Unfit}
 use Rattle.settle.specs.declared.Settled.the-variants.{Set, Unset}
 use Rattle.settle.specs.Conditions.{seesOwnZone, staysClear, seesNear}
-use Rattle.settle.specs.Fed.{backsUpAll, unbackedBy, aboveLoadBy, pickedBy, delayBy, settledBy, CardBounded}
-use Rattle.settle.specs.Settle.{unbacked, firstUnbacked, leastPickup, backed, judged, picked, leastDelay, fitting, cutoffOf, shown, outcomeOf}
+use Rattle.settle.specs.Fed.{backsUpAll, unbackedBy, lowerBy, pickedBy, delayBy, settledBy, CardBounded}
+use Rattle.settle.specs.Settle.{unbacked, firstUnbacked, leastPickup, byBackup, judged, picked, leastDelay, fitting, cutoffOf, shown, outcomeOf}
 
 module _ (r : Row) where
   pub sees-near-is : (k x : ℕ) → k ≡ cond (eqb (r .kind) 1) 12 20 → leb (k * x) (10 * r .near) ≡ seesNear r x
@@ -68,17 +67,17 @@ module _ (v : View) (i : ℕ) (r : Row) (f : Fed) where
     judge-blind z = rw z
 
     pub judge-fits : seesOwnZone r x ≡ true → backsUpAll r f x ≡ true → Fits x ≡ judged r x (unbackedBy v i r f x)
-    unfolding judged backed unbackedBy
+    unfolding judged byBackup unbackedBy
     judge-fits z u = rw (z, u)
 
     pub judge-searched :
-        seesOwnZone r x ≡ true → backsUpAll r f x ≡ false → (a : Found) → firstUnbacked v i r x ≡ a → backed x a ≡ judged r x (unbackedBy v i r f x)
+        seesOwnZone r x ≡ true → backsUpAll r f x ≡ false → (a : Found) → firstUnbacked v i r x ≡ a → byBackup x a ≡ judged r x (unbackedBy v i r f x)
     unfolding judged unbackedBy
     judge-searched z u a g = rw (z, u, g)
 
   -- the least available pickup from the bound on, where P1 and P2 hold
-  module _ (b : ℕ) (bound : (x : ℕ) → leb b x ≡ aboveLoadBy r f x) where
-    least-from : leastPickup r (leb b) ≡ leastPickup r (aboveLoadBy r f)
+  module _ (b : ℕ) (bound : (x : ℕ) → leb b x ≡ lowerBy r f x) where
+    least-from : leastPickup r (leb b) ≡ leastPickup r (lowerBy r f)
     least-from = λ t. leastPickup r (λ x. bound x t)
 
     pub pick-none : leastPickup r (leb b) ≡ Nothing → Unfit Range ≡ pickedBy v i r f
@@ -139,11 +138,11 @@ module _ (r : Row) where
 
   -- a pickup that fits is the least that was found
   pub picked-found : (a : Found) (fails : ℕ → Found) (I : ℕ) → picked r a fails ≡ Fits I → a ≡ At I
-  unfolding picked judged backed
+  unfolding picked judged byBackup
   picked-found Nothing fails I e = absurd (zero-not-one cc)
   picked-found (At x) fails I e = by-cases (seesOwnZone r x) (fails x) e
     where
-      by-cases : (z : Bool) (f : Found) → cond z (backed x f) (Unfit OwnZone) ≡ Fits I → At x ≡ At I
+      by-cases : (z : Bool) (f : Found) → cond z (byBackup x f) (Unfit OwnZone) ≡ Fits I → At x ≡ At I
       by-cases true Nothing e = let q : x ≡ I = cc in ap At q
       by-cases true (At j) e = absurd (zero-not-one cc)
       by-cases false f e = absurd (zero-not-one cc)
@@ -153,8 +152,8 @@ module _ (r : Row) where
   unfolding settledBy pickedBy shown
   set-bounded v i f o a e =
       let q = outcome-set (pickedBy v i r f) (leastDelay r (delayBy r f)) o (sym e) in
-      let p = picked-found (leastPickup r (aboveLoadBy r f)) _ (o .pickup) (q .pickup-fits) in
+      let p = picked-found (leastPickup r (lowerBy r f)) _ (o .pickup) (q .pickup-fits) in
       record {
-        pickup-to = le-trans (leastOn-least _ _ _ (a .step-from) (aboveLoadBy r f) _ p .available .within) (a .high-to);
+        pickup-to = le-trans (leastOn-least _ _ _ (a .step-from) (lowerBy r f) _ p .available .within) (a .high-to);
         delay-to = le-trans (leastOn-least _ _ 1 (omega arith) (delayBy r f) _ (q .delay-found) .available .within) (a .ceiling-to);
       }

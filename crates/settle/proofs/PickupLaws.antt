@@ -15,7 +15,7 @@ use Rattle.layout.specs.declared.Row.{Row}
 use Rattle.layout.specs.Range.{Bounded}
 use Rattle.settle.specs.declared.Fed.{Fed}
 use Rattle.settle.specs.Conditions.{returnsAfterSelfStart, withinDelays}
-use Rattle.settle.specs.Fed.{reach, clearOfAll, aboveLoadBy, delayBy}
+use Rattle.settle.specs.Fed.{reach, clearOfAll, lowerBy, delayBy}
 use Rattle.settle.specs.Settle.{leastPickup, leastDelay}
 
 -- a current times volts
@@ -35,8 +35,8 @@ module _ (r : Row) (f : Fed) (a : Bounded r) where
   pub pickup-bound :
       (b₁ b₂ : ℕ) → b₁ ≡ ceilDiv (11 * r .selfstart * r .work) (10 * r .returnfactor) →
       b₂ ≡ ceilDiv (11 * (f .excess + f .load - reach)) (10 * r .volts) →
-      (x : ℕ) → leb (max b₁ b₂) x ≡ aboveLoadBy r f x
-  unfolding aboveLoadBy returnsAfterSelfStart clearOfAll
+      (x : ℕ) → leb (max b₁ b₂) x ≡ lowerBy r f x
+  unfolding lowerBy returnsAfterSelfStart clearOfAll
   pickup-bound b₁ b₂ e₁ e₂ x =
       max-leb b₁ b₂ x ∙
       ap₂ _&&_

@@ -20,19 +20,14 @@ use Rattle.layout.specs.View.{View, viewOf, Settings}
 use Rattle.rows.specs.InRange.{Feeds}
 use Rattle.rows.proofs.InRangeLaws.{feeder-above, feeder-of-last}
 use Rattle.settle.specs.Conditions.{fed, eachFed, loadOf, othersLoad, returnsAfterSelfStart, clearOf, backsUp, withinDelays, gradedAbove}
-use Rattle.settle.specs.Settle.{aboveLoad, unbacked, firstUnbacked, leastPickup, leastAboveLoad, picked, meetsDelay, leastDelay, outcomeOf, settled}
+use Rattle.settle.specs.Settle.{meetsLower, unbacked, firstUnbacked, leastPickup, candidate, picked, meetsDelay, leastDelay, outcomeOf, settled}
 
-counted-same : (b b′ : Bool) (x x′ : ℕ) → b ≡ b′ → (b ≡ true → x ≡ x′) → cond b x 0 ≡ cond b′ x′ 0
-counted-same true b′ x x′ e h = ap (λ (b : Bool). cond b x 0) e ∙ rw (← e) (h refl)
-counted-same false b′ x x′ e h = rw (← e)
-
-tested-same : (b b′ x x′ : Bool) → b ≡ b′ → (b ≡ true → x ≡ x′) → (not b || x) ≡ (not b′ || x′)
-tested-same true b′ x x′ e h = h refl ∙ ap (λ (b : Bool). not b || x′) e
-tested-same false b′ x x′ e h = ap (λ (b : Bool). not b || x′) e
-
-also-same : (b b′ x x′ : Bool) → b ≡ b′ → (b ≡ true → x ≡ x′) → (b && x) ≡ (b′ && x′)
-also-same true b′ x x′ e h = h refl ∙ ap (λ (b : Bool). b && x′) e
-also-same false b′ x x′ e h = ap (λ (b : Bool). b && x′) e
+-- what counts only where a test passes is the same where the tests are and what counts is
+where-same :
+    {A B : Type 0} (op : Bool → A → B) → ((x x′ : A) → op false x ≡ op false x′) → (b b′ : Bool) (x x′ : A) → b ≡ b′ → (b ≡ true → x ≡ x′) →
+    op b x ≡ op b′ x′
+where-same op off true b′ x x′ e h = ap (op true) (h refl) ∙ ap (λ (b : Bool). op b x′) e
+where-same op off false b′ x x′ e h = off x x′ ∙ ap (λ (b : Bool). op b x′) e
 
 -- row i of two views, with the same fields, feeding the same rows with the same fields and settings
 module _ (v v′ : View) (k k′ : Settings) (i : ℕ) (n : v .count ≡ v′ .count) (r : v .row i ≡ v′ .row i)
@@ -43,21 +38,21 @@ module _ (v v′ : View) (k k′ : Settings) (i : ℕ) (n : v .count ≡ v′ .c
       (ok ok′ : ℕ → Bool) → ((j : ℕ) → j < v .count → fed v i j ≡ true → ok j ≡ ok′ j) → eachFed v i ok ≡ eachFed v′ i ok′
   each-same ok ok′ h =
       every-same (λ j. not (fed v i j) || ok j) (λ j. not (fed v′ i j) || ok′ j) (v .count)
-      (λ j b. tested-same (fed v i j) (fed v′ i j) (ok j) (ok′ j) (feeding j b) (h j b)) ∙
+      (λ j b. where-same (λ (t x : Bool). not t || x) (λ x x′. refl) (fed v i j) (fed v′ i j) (ok j) (ok′ j) (feeding j b) (h j b)) ∙
       ap (λ (m : ℕ). every m (λ j. not (fed v′ i j) || ok′ j)) n
 
   others-same : (j : ℕ) → othersLoad v i j ≡ othersLoad v′ i j
   others-same j =
       sumTo-same _ _ (v .count)
       (λ x b.
-      counted-same (fed v i x && not (eqb x j)) (fed v′ i x && not (eqb x j)) _ _
+      where-same (λ (t : Bool) (y : ℕ). cond t y 0) (λ y y′. refl) (fed v i x && not (eqb x j)) (fed v′ i x && not (eqb x j)) _ _
       (ap (λ (t : Bool). t && not (eqb x j)) (feeding x b))
       (λ t. ap (λ (f : Row). f .work * f .volts) (fields x b (and-left (fed v i x) _ t)))) ∙
       ap (λ (m : ℕ). sumTo m (λ x. cond (fed v′ i x && not (eqb x j)) (loadOf v′ x) 0)) n
 
-  load-same : (I : ℕ) → aboveLoad v k i I ≡ aboveLoad v′ k′ i I
-  unfolding aboveLoad clearOf
-  load-same I =
+  lower-same : (I : ℕ) → meetsLower v k i I ≡ meetsLower v′ k′ i I
+  unfolding meetsLower clearOf
+  lower-same I =
       λ t.
       returnsAfterSelfStart (r t) I &&
       each-same (λ j. clearOf v k i j I) (λ j. clearOf v′ k′ i j I)
@@ -69,7 +64,7 @@ module _ (v v′ : View) (k k′ : Settings) (i : ℕ) (n : v .count ≡ v′ .c
   unbacked-same I =
       first-same (unbacked v i (v .row i) I) (unbacked v′ i (v′ .row i) I) (v .count) 0
       (λ j b.
-      also-same (fed v i j) (fed v′ i j) (not (backsUp (v .row i) (v .row j) I)) (not (backsUp (v′ .row i) (v′ .row j) I))
+      where-same _&&_ (λ x x′. refl) (fed v i j) (fed v′ i j) (not (backsUp (v .row i) (v .row j) I)) (not (backsUp (v′ .row i) (v′ .row j) I))
       (feeding j (omega arith))
       (λ g. λ t. not (backsUp (r t) (fields j (omega arith) g t) I))) ∙
       ap (first (unbacked v′ i (v′ .row i) I) 0) n
@@ -83,10 +78,10 @@ module _ (v v′ : View) (k k′ : Settings) (i : ℕ) (n : v .count ≡ v′ .c
       (λ j b g. λ u. gradedAbove (r u) (fields j b g u) (settings j b g u) d) t
 
   pub settled-same : settled v k i ≡ settled v′ k′ i
-  unfolding settled leastAboveLoad
+  unfolding settled candidate
   settled-same =
       λ t.
-      outcomeOf (r t) (picked (r t) (leastPickup (r t) (λ I. load-same I t)) (λ I. unbacked-same I t))
+      outcomeOf (r t) (picked (r t) (leastPickup (r t) (λ I. lower-same I t)) (λ I. unbacked-same I t))
       (leastDelay (r t) (λ d. delay-same d t))
 
 pub fed-below : (l : List ℕ) → Feeds l → (i j : ℕ) → j < rows l → fed (viewOf l) i j ≡ true → j < i

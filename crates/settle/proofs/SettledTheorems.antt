@@ -16,10 +16,10 @@ use Rattle.layout.specs.declared.CardRow.{CardRow}
 use Rattle.layout.specs.declared.Row.{Row}
 use Rattle.layout.specs.View.{View, Settings}
 use Rattle.settle.specs.declared.Settled.the-variants.{Unset}
-use Rattle.settle.specs.Inequalities.{SomePickup, NoDelay, NoneAboveLoad, CauseIs, LeastRow, RowSettled}
+use Rattle.settle.specs.Inequalities.{SomePickup, NoDelay, NoCandidate, CauseIs, LeastRow, RowSettled}
 use Rattle.settle.specs.Inequalities.CauseIs.{RANGE}
 use Rattle.settle.specs.Settle.{pickupOf, meetsDelay, leastDelay, cutoffOf, printed, shown, outcomeOf, settled}
-use Rattle.settle.proofs.CauseTheorems.{range-means, cause-exactly, fits-exactly, fits-some, least-above-load}
+use Rattle.settle.proofs.CauseTheorems.{range-means, cause-exactly, fits-exactly, fits-some, least-candidate}
 use Rattle.settle.proofs.MeetsTheorems.{delay-exactly}
 use Rattle.settle.proofs.OutcomeLaws.{outcome-set, outcome-no-pickup, outcome-no-delay}
 
@@ -45,7 +45,7 @@ module _ (v : View) (k : Settings) (i : ℕ) (p : 0 < v .row i .step) where
   )
 
   -- RANGE exactly where no available pickup meets P1 and P2
-  pub range-exactly : (settled v k i ≡ Unset (Pickup Range)) ↔ NoneAboveLoad v k i
+  pub range-exactly : (settled v k i ≡ Unset (Pickup Range)) ↔ NoCandidate v k i
   range-exactly = (λ e. range-means v k i refl (no-pickup-exactly Range .0 e), λ n. no-pickup-exactly Range .1 (RANGE n))
 
   -- DELAY exactly where a pickup fits, and no delay meets D1 and D2
@@ -90,7 +90,7 @@ module _ (v : View) (k : Settings) (i : ℕ) (p : 0 < v .row i .step) where
         settles =
             rw (
               fits-exactly v k i p (k i .pickup) .1
-                  (least-above-load v k i (k i .pickup) (m .available) (m .pickup) (m .no-lower), m .pickup),
+                  (least-candidate v k i (k i .pickup) (m .available) (m .pickup) (m .no-lower), m .pickup),
               leastOn-is _ _ 1 (omega arith) (meetsDelay v k i) (k i .delay) (record {
                 available = delay-available (v .row i) (k i .delay) (m .delay .D1);
                 passes = delay-exactly v k i (k i .delay) .1 (m .delay);

@@ -142,8 +142,8 @@ settlings =
     ∷ settles (with network 4 atHigh 120999) 4 (11 ∷ 4 ∷ 0 ∷ [])
     ∷ settles (with network 1 atHigh 12100) 1 (12100 ∷ 0 ∷ 0 ∷ [])
     ∷ settles (with network 1 atHigh 12099) 1 (11 ∷ 1 ∷ 0 ∷ [])
-    -- P3, and P4 of the motor and of the transformer where it is backed, at the least pickup and one off: OWN ZONE, BACKUP of the
-    -- motor, whose number is 3, though the transformer's far is too small too, and of the transformer
+    -- P3 at the least pickup and one off: OWN ZONE. P4 of the motor, row 3, which BACKUP names: the transformer's far is too small too,
+    -- but it is not backed. P4 of the transformer, backed
     ∷ settles (with network 4 atFar 181500) 4 (121000 ∷ 1200 ∷ 1301000 ∷ [])
     ∷ settles (with network 4 atFar 181499) 4 (12 ∷ 4 ∷ 0 ∷ [])
     ∷ settles (with network 3 atFar 2178000) 4 (121000 ∷ 1200 ∷ 1301000 ∷ [])

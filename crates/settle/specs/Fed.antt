@@ -1,4 +1,5 @@
--- What the rows that a row feeds ask of it, in four numbers, so that a row is settled without looking at them again.
+-- What the rows that a row feeds ask of it, in four numbers, so that a row is settled without looking at them again, but to
+-- name the first for which P4 fails.
 -- `gathered` says what the numbers are; that settling by them is settling by section 3 is a law. Definitions only.
 use mathlib.Core.Bool.{Bool, cond, _&&_}
 use Prim.Native.Nat.{ℕ, _+_, _-_, _*_, _≤_}
@@ -56,16 +57,16 @@ clearOfAll r f I = atLeast (10 * I * r .volts) (11 * (f .excess + f .load - reac
 unfoldable pub backsUpAll : Row → Fed → ℕ → Bool
 backsUpAll r f I = atLeast (10 * (reach - f .shortfall)) (12 * I * r .volts)
 
--- the first fed row for which pickup I fails P4: the fed rows are gone through where it fails for one of them
+-- the first fed row for which pickup I fails P4: the fed rows are gone through only where it fails for one of them
 unfoldable pub unbackedBy : View → ℕ → Row → Fed → ℕ → Found
 unbackedBy v i r f I = cond (backsUpAll r f I) Nothing (firstUnbacked v i r I)
 
 -- P1 and P2 by the four numbers, and the pickup
-unfoldable pub aboveLoadBy : Row → Fed → ℕ → Bool
-aboveLoadBy r f I = returnsAfterSelfStart r I && clearOfAll r f I
+unfoldable pub lowerBy : Row → Fed → ℕ → Bool
+lowerBy r f I = returnsAfterSelfStart r I && clearOfAll r f I
 
 unfoldable pub pickedBy : View → ℕ → Row → Fed → Picked
-pickedBy v i r f = picked r (leastPickup r (aboveLoadBy r f)) (unbackedBy v i r f)
+pickedBy v i r f = picked r (leastPickup r (lowerBy r f)) (unbackedBy v i r f)
 
 unfoldable pub delayBy : Row → Fed → ℕ → Bool
 delayBy r f t = withinDelays r t && leb (f .earliest) t

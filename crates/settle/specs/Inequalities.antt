@@ -24,21 +24,21 @@ AvailableOn r x = Available (r .low) (r .high) (r .step) x
 abbrev pub Feeding : View → ℕ → ℕ → Type 0
 Feeding v i j = v .row j .feeder ≡ i + 1
 
--- pickup I of row i meets P1 and P2: it is above the load
-pub record AboveLoad (v : View) (k : Settings) (i I : ℕ) : Type 0 where
+-- pickup I of row i meets P1 and P2, the bounds from below
+pub record LowerMet (v : View) (k : Settings) (i I : ℕ) : Type 0 where
   pub P1 : 11 * v .row i .selfstart * v .row i .work ≤ 10 * I * v .row i .returnfactor
   pub P2 : (j : ℕ) → j < v .count → Feeding v i j → 11 * (k j .pickup * v .row j .volts + othersLoad v i j) ≤ 10 * I * v .row i .volts
 
--- it meets P3; it meets P4 for the fed row j
+-- pickup I of row i meets P3; it meets P4 for the fed row j
 abbrev pub SeesOwnZone : View → ℕ → ℕ → Type 0
 SeesOwnZone v i I = 15 * I ≤ 10 * v .row i .far
 
 abbrev pub BacksUp : View → ℕ → ℕ → ℕ → Type 0
 BacksUp v i j I = v .row j .backed ≡ 1 → 12 * I * v .row i .volts ≤ 10 * v .row j .far * v .row j .volts
 
--- it meets P1 to P4
+-- pickup I of row i meets P1 to P4
 pub record PickupMet (v : View) (k : Settings) (i I : ℕ) : Type 0 where
-  pub P1-P2 : AboveLoad v k i I
+  pub P1-P2 : LowerMet v k i I
   pub P3 : SeesOwnZone v i I
   pub P4 : (j : ℕ) → j < v .count → Feeding v i j → BacksUp v i j I
 
@@ -78,15 +78,15 @@ NoPickup v k i = (I : ℕ) → AvailableOn (v .row i) I → PickupMet v k i I �
 abbrev pub NoDelay : View → Settings → ℕ → Type 0
 NoDelay v k i = (t : ℕ) → DelayMet v k i t → ⊥
 
--- [02 §2] "its least available pickup meeting P1 and P2"
-pub record LeastAboveLoad (v : View) (k : Settings) (i I : ℕ) : Type 0 where
+-- [02 §2] I is the candidate of row i: "its least available pickup meeting P1 and P2"
+pub record Candidate (v : View) (k : Settings) (i I : ℕ) : Type 0 where
   pub available : AvailableOn (v .row i) I
-  pub above-load : AboveLoad v k i I
-  pub least : (x : ℕ) → AvailableOn (v .row i) x → AboveLoad v k i x → I ≤ x
+  pub lower-met : LowerMet v k i I
+  pub least : (x : ℕ) → AvailableOn (v .row i) x → LowerMet v k i x → I ≤ x
 
 -- "if there is none": no available pickup of row i meets P1 and P2
-abbrev pub NoneAboveLoad : View → Settings → ℕ → Type 0
-NoneAboveLoad v k i = (I : ℕ) → AvailableOn (v .row i) I → AboveLoad v k i I → ⊥
+abbrev pub NoCandidate : View → Settings → ℕ → Type 0
+NoCandidate v k i = (I : ℕ) → AvailableOn (v .row i) I → LowerMet v k i I → ⊥
 
 -- "the fed rows ascending": row j is the first of them for which pickup I of row i fails P4
 pub record FirstUnbacked (v : View) (i I j : ℕ) : Type 0 where
@@ -95,11 +95,12 @@ pub record FirstUnbacked (v : View) (i I j : ℕ) : Type 0 where
   pub fails : BacksUp v i j I → ⊥
   pub earlier : (x : ℕ) → x < j → Feeding v i x → BacksUp v i x I
 
--- why no available pickup of row i meets P1 to P4: 11 RANGE, 12 OWN ZONE, 13 BACKUP with the fed row's number
+-- why no available pickup of row i meets P1 to P4: 11 RANGE, there is no candidate; 12 OWN ZONE, it fails P3; 13 BACKUP, it passes P3
+-- and fails P4 for a fed row, the first of which is named by its number
 pub data CauseIs (v : View) (k : Settings) (i : ℕ) : Cause → Type 0 where
-  RANGE : NoneAboveLoad v k i → CauseIs v k i Range
-  OWN-ZONE : (I : ℕ) → LeastAboveLoad v k i I → (SeesOwnZone v i I → ⊥) → CauseIs v k i OwnZone
-  BACKUP : (I j : ℕ) → LeastAboveLoad v k i I → SeesOwnZone v i I → FirstUnbacked v i I j → CauseIs v k i (Backup (j + 1))
+  RANGE : NoCandidate v k i → CauseIs v k i Range
+  OWN-ZONE : (I : ℕ) → Candidate v k i I → (SeesOwnZone v i I → ⊥) → CauseIs v k i OwnZone
+  BACKUP : (I j : ℕ) → Candidate v k i I → SeesOwnZone v i I → FirstUnbacked v i I j → CauseIs v k i (Backup (j + 1))
 
 -- row i stands at its least settings: none that fits it has a lower pickup, and none a shorter delay
 pub record LeastRow (v : View) (k : Settings) (i : ℕ) : Type 0 where

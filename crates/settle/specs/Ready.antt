@@ -6,7 +6,7 @@ use Rattle.layout.specs.List.{rows}
 use Rattle.layout.specs.Range.{Bounded, AllBounded}
 use Rattle.layout.specs.View.{viewOf}
 
--- row i of a list whose rows are in range, with fields r that are too
+-- row i of a list whose rows are in range; r stands for the fields of row i, and is in range too
 pub record Listed (l : List ℕ) (i : ℕ) (r : Row) : Type 0 where
   pub is-row : i < rows l
   pub all-bounded : AllBounded (viewOf l)

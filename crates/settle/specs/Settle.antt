@@ -19,9 +19,9 @@ use Rattle.settle.specs.declared.Settled.{Settled}
 use Rattle.settle.specs.declared.Settled.the-variants.{Set, Unset}
 use Rattle.settle.specs.Conditions.{fed, eachFed, returnsAfterSelfStart, clearOf, seesOwnZone, backsUp, withinDelays, gradedAbove, staysClear, seesNear}
 
--- pickup I of row i meets P1 and P2: it is above the load
-unfoldable pub aboveLoad : View → Settings → ℕ → ℕ → Bool
-aboveLoad v k i I = returnsAfterSelfStart (v .row i) I && eachFed v i (λ j. clearOf v k i j I)
+-- pickup I of row i meets P1 and P2, the bounds from below
+unfoldable pub meetsLower : View → Settings → ℕ → ℕ → Bool
+meetsLower v k i I = returnsAfterSelfStart (v .row i) I && eachFed v i (λ j. clearOf v k i j I)
 
 -- row i, by its fields r, feeds row j, and pickup I fails P4 for it; the first such row, ascending
 unfoldable pub unbacked : View → ℕ → Row → ℕ → ℕ → Bool
@@ -38,26 +38,26 @@ meetsDelay v k i t = withinDelays (v .row i) t && eachFed v i (λ j. gradedAbove
 abbrev pub leastPickup : Row → (ℕ → Bool) → Found
 leastPickup r ok = leastOn (r .low) (r .high) (r .step) ok
 
--- [02 §2] "its least available pickup meeting P1 and P2"
-unfoldable pub leastAboveLoad : View → Settings → ℕ → Found
-leastAboveLoad v k i = leastPickup (v .row i) (aboveLoad v k i)
+-- [02 §2] the candidate of row i: "its least available pickup meeting P1 and P2"
+unfoldable pub candidate : View → Settings → ℕ → Found
+candidate v k i = leastPickup (v .row i) (meetsLower v k i)
 
--- "otherwise test the own zone, then the fed rows ascending": of pickup I, `fails` being the first fed row for which it fails P4
-unfoldable pub backed : ℕ → Found → Picked
-backed I Nothing = Fits I
-backed I (At j) = Unfit (Backup (j + 1))
+-- "otherwise test the own zone, then the fed rows ascending": candidate I, the first fed row for which it fails P4 being u
+unfoldable pub byBackup : ℕ → Found → Picked
+byBackup I Nothing = Fits I
+byBackup I (At j) = Unfit (Backup (j + 1))
 
 unfoldable pub judged : Row → ℕ → Found → Picked
-judged r I fails = cond (seesOwnZone r I) (backed I fails) (Unfit OwnZone)
+judged r I u = cond (seesOwnZone r I) (byBackup I u) (Unfit OwnZone)
 
--- "if there is none it is RANGE"
+-- "if there is none it is RANGE"; `failed` gives, for a pickup, the first fed row for which it fails P4
 unfoldable pub picked : Row → Found → (ℕ → Found) → Picked
-picked r Nothing fails = Unfit Range
-picked r (At I) fails = judged r I (fails I)
+picked r Nothing failed = Unfit Range
+picked r (At I) failed = judged r I (failed I)
 
 -- the pickup of row i, or why it has none
 abbrev pub pickupOf : View → Settings → ℕ → Picked
-pickupOf v k i = picked (v .row i) (leastAboveLoad v k i) (firstUnbacked v i (v .row i))
+pickupOf v k i = picked (v .row i) (candidate v k i) (firstUnbacked v i (v .row i))
 
 -- the least delay that passes; delays come in steps of 1, and D1 keeps them between floor and ceiling
 abbrev pub leastDelay : Row → (ℕ → Bool) → Found

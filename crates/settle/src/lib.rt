@@ -17,7 +17,7 @@ ghost use Rattle.layout.specs.List.{rows};
 ghost use Rattle.layout.specs.Range.{Bounded};
 ghost use Rattle.layout.specs.View.{viewOf};
 ghost use Rattle.settle.specs.Conditions.{seesOwnZone, backsUp, seesNear, margin, marginBetween};
-ghost use Rattle.settle.specs.Fed.{aboveLoadBy, backsUpAll, unbackedBy, pickedBy, delayBy, settledBy, shortfall, asked, FedBounded, CardBounded};
+ghost use Rattle.settle.specs.Fed.{lowerBy, backsUpAll, unbackedBy, pickedBy, delayBy, settledBy, shortfall, asked, FedBounded, CardBounded};
 ghost use Rattle.settle.specs.Ready.{Listed};
 ghost use Rattle.settle.specs.Settle.{unbacked, firstUnbacked, judged, leastDelay, cutoffOf, printed, shown};
 
@@ -66,7 +66,7 @@ fn over(a: u64, b: u64) -> u64
 // The least pickup that P1 and P2 allow, available or not.
 fn pickup_from(r: Row, f: Fed) -> u64
     requires { ⌜ Bounded r × FedBounded f ⌝ }
-    ensures { λ b. ⌜ ((x : ℕ) → leb b x ≡ aboveLoadBy r f x) ⌝ }
+    ensures { λ b. ⌜ ((x : ℕ) → leb b x ≡ lowerBy r f x) ⌝ }
 {
     let returns = ceil_div(11 * r.selfstart * r.work, 10 * r.returnfactor);
     let asked = over(f.excess + f.load, REACH);
@@ -102,7 +102,7 @@ fn backs_up(r: Row, f: Row, x: u64) -> bool
 }
 
 // Row j is fed by row i, whose fields are r, and pickup x of that row fails P4 for it.
-fn unbacked(list: &[u64], i: usize, r: Row, x: u64, j: usize) -> bool
+fn is_unbacked(list: &[u64], i: usize, r: Row, x: u64, j: usize) -> bool
     requires { ⌜ Listed (now list) i r × (x ≤ 100000000) × (j < rows (now list)) ⌝ }
     ensures { λ b. ⌜ b ≡ unbacked (viewOf (now (list .entry))) i r x j ⌝ }
 {
@@ -120,7 +120,7 @@ fn first_unbacked(list: &[u64], i: usize, r: Row, x: u64) -> Found
     let n = list.len() / FIELDS;
     let mut j = 0;
     while j < n {
-        if unbacked(list, i, r, x, j) {
+        if is_unbacked(list, i, r, x, j) {
             return Found::At(j as u64);
         }
         j += 1;
@@ -128,7 +128,8 @@ fn first_unbacked(list: &[u64], i: usize, r: Row, x: u64) -> Found
     Found::Nothing
 }
 
-// P3, then P4, of a pickup that meets P1 and P2. The fed rows are gone through only where their sums say that P4 fails for one.
+// P3, then P4, of a pickup that meets P1 and P2. The fed rows are gone through only where their numbers say that P4 fails for one of
+// them, and then one is found: the row is refused.
 fn judge(list: &[u64], i: usize, r: Row, f: Fed, x: u64) -> Picked
     requires { ⌜ Listed (now list) i r × FedBounded f × (x ≤ 100000000) ⌝ }
     ensures { λ p. ⌜ p ≡ judged r x (unbackedBy (viewOf (now (list .entry))) i r f x) ⌝ }

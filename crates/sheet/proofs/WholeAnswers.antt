@@ -11,7 +11,7 @@ use Rattle.answers.specs.declared.Answer.{Answer}
 use Rattle.answers.specs.declared.Answer.the-variants.{Done, Text, Count, Room, Field, Tree, Unsettled, Study, Card, Edit}
 use Rattle.answers.specs.declared.Reason.the-variants.{Pickup}
 use Rattle.answers.specs.Answer.{givenBy}
-use Rattle.answers.proofs.AnswerLaws.{unsettled-above, unsettled-not-done}
+use Rattle.answers.proofs.AnswerLaws.{unsettled-above, unsettled-not-0}
 use Rattle.layout.specs.Counts.{cardMost}
 use Rattle.layout.specs.View.{View}
 use Rattle.rows.specs.InRange.{RightSize}
@@ -30,7 +30,7 @@ given-done Count h = absurd (false≢true h)
 given-done Room h = absurd (false≢true h)
 given-done (Field row k) h = absurd (false≢true h)
 given-done (Tree row) h = absurd (false≢true h)
-given-done (Unsettled row why) h = absurd (not-both h (unsettled-not-done row why))
+given-done (Unsettled row why) h = absurd (not-both h (unsettled-not-0 row why))
 given-done (Study place) h = absurd (false≢true h)
 given-done (Card row) h = absurd (false≢true h)
 given-done Edit h = absurd (false≢true h)

@@ -1,5 +1,4 @@
 -- `answers::unsettled` meets its contract: each reason has the numbers that `givenBy` says.
-use native.Mathlib.Omega.{arith}
 use borrow.Author.Needs.{needs}
 use mathlib.Core.Path.{_≡_, sym, ap, _∙_}
 use Prim.Native.Nat.{ℕ}

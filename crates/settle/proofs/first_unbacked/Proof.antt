@@ -18,14 +18,14 @@ abbrev μ-loop : tie.MeasureT-loop
 loop-holds : tie.Need-loop-holds Inv-loop μ-loop
 loop-holds c = passed-none _ _
 
-unbacked-requires : tie.Need-unbacked-requires Inv-loop μ-loop
-unbacked-requires c κs = let a = c .before .before .before .pre in (a .0, a .1, omega arith)
+is-unbacked-requires : tie.Need-is-unbacked-requires Inv-loop μ-loop
+is-unbacked-requires c κs = let a = c .before .before .before .pre in (a .0, a .1, omega arith)
 
 returns : tie.Need-returns Inv-loop μ-loop
 unfolding firstUnbacked
 returns c =
     sym
-    (passed-found _ (c .before .before .before .loop .inv) (c .before .before .loop-test .taken) (sym (c .before .unbacked .ensures) ∙ c .if1 .taken))
+    (passed-found _ (c .before .before .before .loop .inv) (c .before .before .loop-test .taken) (sym (c .before .is-unbacked .ensures) ∙ c .if1 .taken))
 
 add-j : tie.Need-add-j Inv-loop μ-loop
 add-j c = omega arith
@@ -35,7 +35,7 @@ loop-less c = omega arith
 
 loop-again : tie.Need-loop-again Inv-loop μ-loop
 loop-again c =
-    passed-more _ (c .before .before .before .loop .inv) (c .before .before .loop-test .taken) (sym (c .before .unbacked .ensures) ∙ c .if1 .left)
+    passed-more _ (c .before .before .before .loop .inv) (c .before .before .loop-test .taken) (sym (c .before .is-unbacked .ensures) ∙ c .if1 .left)
 
 returns-2 : tie.Need-returns-2 Inv-loop μ-loop
 unfolding firstUnbacked
@@ -48,7 +48,7 @@ first-unbacked-spec =
     Inv-loop
     μ-loop
     loop-holds
-    unbacked-requires
+    is-unbacked-requires
     returns
     add-j
     loop-less

@@ -3,7 +3,7 @@ use native.Mathlib.Omega.{arith}
 use borrow.Author.Needs.{needs}
 use mathlib.Core.Path.{sym, _∙_}
 use borrow.Author.Tests.{not-true, not-false}
-use Rattle.settle.specs.Settle.{backed}
+use Rattle.settle.specs.Settle.{byBackup}
 use Rattle.settle.proofs.OutcomeLaws.{unbacked-below, judge-blind, judge-fits, judge-searched}
 use Rattle.settle.proofs.judge.Statement.{statement}
 use Rattle.settle.proofs.judge.Tie as tie
@@ -38,7 +38,7 @@ enum-told : tie.Need-enum-told
 enum-told c = search needs
 
 returns-3 : tie.Need-returns-3
-unfolding backed
+unfolding byBackup
 returns-3 c =
     let found = c .before in
     let searched = found .before .before in
@@ -48,7 +48,7 @@ returns-3 c =
     (sym (all .before .backs-up-all .ensures) ∙ all .if2 .left) _ (sym (searched .first-unbacked .ensures) ∙ found .j .given .1)
 
 returns-4 : tie.Need-returns-4
-unfolding backed
+unfolding byBackup
 returns-4 c =
     let searched = c .before .before in
     let all = searched .before in

@@ -1,4 +1,4 @@
--- `settle::unbacked` meets its contract: row j is read, and passed over where another row feeds it.
+-- `settle::is_unbacked` meets its contract: row j is read, and passed over where another row feeds it.
 use borrow.Author.Needs.{needs}
 use mathlib.Core.Path.{_≡_, sym, subst}
 use mathlib.Core.Bool.{Bool, false, not}
@@ -9,8 +9,8 @@ use Rattle.layout.specs.Range.{Bounded}
 use Rattle.layout.specs.View.{View}
 use Rattle.settle.specs.Conditions.{backsUp}
 use Rattle.settle.specs.Settle.{unbacked}
-use Rattle.settle.proofs.unbacked.Statement.{statement}
-use Rattle.settle.proofs.unbacked.Tie as tie
+use Rattle.settle.proofs.is_unbacked.Statement.{statement}
+use Rattle.settle.proofs.is_unbacked.Tie as tie
 
 -- row j, read as f: fed elsewhere, or judged by P4
 module _ (v : View) (i : ℕ) (r : Row) (x j : ℕ) (f : Row) (e : f ≡ v .row j) where
@@ -40,5 +40,5 @@ backs-up-requires c κs =
 returns-2 : tie.Need-returns-2
 returns-2 c = by-backup _ _ _ _ _ _ (c .before .before .before .row-at .ensures) (c .before .if1 .left) _ (c .backs-up .ensures)
 
-pub unbacked-spec : {M : Type 1} → statement M
-unbacked-spec = tie.close (tie.spec row-at-requires add-if1 returns backs-up-requires returns-2)
+pub is-unbacked-spec : {M : Type 1} → statement M
+is-unbacked-spec = tie.close (tie.spec row-at-requires add-if1 returns backs-up-requires returns-2)
