@@ -12,7 +12,7 @@
    - The caller was compiled with the header of the library that it is linked with: see SURFPOCKET_VERSION.
    - There is stack enough. Measured on x86-64 with 256 rows, and rounded up:
          surfpocket_whole      20 KiB
-         surfpocket_replace    80 KiB for the first row of a chain: 12 KiB, and 240 bytes a row from the new one to the source
+         surfpocket_replace    92 KiB for the first row of a chain: 12 KiB, and 288 bytes a row from the new one to the source
          surfpocket_study       1 KiB
          surfpocket_card       96 KiB
      A thread made for such a call needs what the thread itself takes besides.
@@ -93,9 +93,9 @@ typedef struct {
    leaves the card as it was. The card's numbers past its rows stay.
    Order: COUNT (no row, over 256, or a partial row: a length that is no multiple of 18), ROOM (fewer than 3 card numbers a row),
    FIELD over all rows ascending (in a row its fields ascending, then low above high, which is field 12), TREE over all rows
-   ascending, then row by row RANGE, OWN ZONE or BACKUP before DELAY. For the first of these the least pickup that the relay offers and
-   that meets P1 and P2 is taken: RANGE where there is none, OWN ZONE where it fails P3, BACKUP where it fails P4 for a fed row, the
-   first of which is named. No other pickup that the relay offers would do either.
+   ascending, then row by row RANGE, OWN ZONE or BACKUP before DELAY. For RANGE, OWN ZONE and BACKUP the least pickup is taken that
+   the relay offers and that meets P1 and P2: RANGE where there is none, OWN ZONE where it fails P3, BACKUP where it passes P3 and
+   fails P4 for a fed row, the first of which is named. No other pickup that the relay offers would do either.
    A delay is at least that of each fed row plus the larger of the two rows' time steps: 300, 500 or 200 ms for device 1, 2 or 3
    (libraries from before this rule took the fed row's alone). The other conditions are those of the README's table. */
 SurfpocketAnswer surfpocket_whole(const uint64_t *list, size_t list_length, uint64_t *card, size_t card_length);
