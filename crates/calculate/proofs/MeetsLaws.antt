@@ -1,6 +1,6 @@
 -- Settings that are least row by row meet every condition; what meets the conditions still does where the rows below have a lower
 -- pickup or a shorter delay; and where these have the same pickups, the cause that no pickup fits is the same.
-use mathlib.Core.Path.{_≡_}
+use mathlib.Core.Path.{_≡_, sym}
 use Prim.Native.Nat.{ℕ, _≤_, _<_}
 use native.Mathlib.Nat.{mul-le-mul-right}
 use native.Mathlib.Omega.{arith}
@@ -34,23 +34,25 @@ module _ (v : View) (k k′ : Settings) (i : ℕ) where
       }
 
 -- above fed rows with the same pickups the cause is the same
-module _ (v : View) (k k′ : Settings) (i : ℕ) (same : (j : ℕ) → j < v .count → Feeding v i j → k j .pickup ≡ k′ j .pickup) where
-  lower-there : (I : ℕ) → LowerMet v k i I → LowerMet v k′ i I
-  lower-there I = lower-down v k′ k i I (λ j h f. let e = same j h f in omega arith)
+lower-alike :
+    (v : View) (k k′ : Settings) (i : ℕ) → ((j : ℕ) → j < v .count → Feeding v i j → k j .pickup ≡ k′ j .pickup) →
+    (I : ℕ) → LowerMet v k i I → LowerMet v k′ i I
+lower-alike v k k′ i same I = lower-down v k′ k i I (λ j h f. let e = same j h f in omega arith)
 
-  lower-back : (I : ℕ) → LowerMet v k′ i I → LowerMet v k i I
-  lower-back I = lower-down v k k′ i I (λ j h f. let e = same j h f in omega arith)
+module _ (v : View) (k k′ : Settings) (i : ℕ) (same : (j : ℕ) → j < v .count → Feeding v i j → k j .pickup ≡ k′ j .pickup) where
+  back : (I : ℕ) → LowerMet v k′ i I → LowerMet v k i I
+  back = lower-alike v k′ k i (λ j h f. sym (same j h f))
 
   candidate-alike : (I : ℕ) → Candidate v k i I → Candidate v k′ i I
   candidate-alike I m =
       record {
         available = m .available;
-        lower-met = lower-there I (m .lower-met);
-        least = λ x a h. m .least x a (lower-back x h);
+        lower-met = lower-alike v k k′ i same I (m .lower-met);
+        least = λ x a h. m .least x a (back x h);
       }
 
   pub cause-alike : {why : Cause} → CauseIs v k i why → CauseIs v k′ i why
-  cause-alike (RANGE n) = RANGE (λ I a h. n I a (lower-back I h))
+  cause-alike (RANGE n) = RANGE (λ I a h. n I a (back I h))
   cause-alike (OWN-ZONE I m n) = OWN-ZONE I (candidate-alike I m) n
   cause-alike (BACKUP I j m z u) = BACKUP I j (candidate-alike I m) z u
 

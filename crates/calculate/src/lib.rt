@@ -15,7 +15,6 @@ ghost use mathlib.Core.Path.{_≡_};
 ghost use mathlib.Core.List.{_++_};
 ghost use Prim.Native.Nat.{_≤_};
 ghost use lib.ListN.{length, take, drop};
-ghost use Rattle.answers.specs.Answer.{givenBy};
 ghost use Rattle.calculate.specs.Ready.{AllReady, Answered, Gave};
 ghost use Rattle.calculate.specs.Whole.{calculation, workedAs, whole};
 
@@ -65,7 +64,7 @@ fn answer(list: &[u64], card: &mut [u64]) -> Answer
     Answer::Done
 }
 
-// The public entry: the settings card of a list, or the refusal by number, place and field.
+// The public entry: the settings card of a list, or the refusal by its numbers: number, place and what names it more closely.
 pub fn whole_calculation(list: &[u64], card: &mut [u64]) -> [u64; NUMBERS]
     ensures { λ g. ⌜ Gave (whole (now (list .entry)) (now (card .entry))) g (now (card .exit)) ⌝ }
 {

@@ -24,5 +24,6 @@ pub cases : map (λ (w : Worked). comes (w .case)) table ≡ map (λ (w : Worked
 unfolding first sumTo every count valueAt leastOn sizeTest rowsTest inBounds fieldRight faultAfter rowFault feedsRight treeAnswer treeTest fieldAnswer
     returnsAfterSelfStart clearOf seesOwnZone backsUp withinDelays margin marginBetween gradedAbove staysClear seesNear meetsLower unbacked firstUnbacked
     candidate byBackup judged picked meetsDelay fitting cutoffOf printed shown outcomeOf settled putCardRow onSettled workOut upFrom
-    ending calculation whole comes worked table twoRows twoCard backedCard laterCard blank firstRow underOne pickups pathFrom pathOf putList editRight editTest cardRight cardAnswer cardTest onPassed reworked outcome replaced
+    ending calculation whole comes worked table twoRows twoCard backedCard laterCard blank firstRow underOne pickups
+    pathFrom pathOf putList editRight editTest cardRight cardAnswer cardTest onPassed reworked outcome replaced
 cases = refl

@@ -1,11 +1,11 @@
 -- [01 §7] The starred cases, as one table, with those of [02 §2, §5]. Definitions only.
 use mathlib.Core.Bool.{Bool, true, false}
 use mathlib.Core.List.{List, [], _∷_}
-use Prim.Native.Nat.{ℕ, zero, suc, _+_}
+use Prim.Native.Nat.{ℕ, zero, suc}
 use lib.ListN.{set}
-use Rattle.layout.specs.Counts.{fieldCount}
 use Rattle.layout.specs.Fields.{atWork, atFar, atNear, atLow, atHigh, atDevice, atCeiling}
 use Rattle.layout.specs.View.{Settings}
+use Rattle.settle.specs.Cases.{with}
 use Rattle.cases.specs.Case.{Worked, worked}
 use Rattle.cases.specs.Case.Case.{calculates, replaces, clears}
 use Rattle.cases.specs.Case.Comes.{calculated, replacing, clear}
@@ -21,34 +21,6 @@ twoRows =
 -- F1 with another work, and with another far
 unfoldable pub firstRow : ℕ → ℕ → List ℕ
 firstRow work far = 1 ∷ 2 ∷ 1 ∷ 35000 ∷ work ∷ 1500 ∷ 935 ∷ far ∷ 1000000 ∷ 1800000 ∷ 1300 ∷ 50000 ∷ 5000000 ∷ 1000 ∷ 1 ∷ 1900 ∷ 5000 ∷ 1 ∷ []
-
--- fields by their place in that list: work, far and high of row 1; far, near, low, high, device and ceiling of row 2
-abbrev pub work1 : ℕ
-work1 = atWork
-
-abbrev pub far1 : ℕ
-far1 = atFar
-
-abbrev pub high1 : ℕ
-high1 = atHigh
-
-abbrev pub far2 : ℕ
-far2 = fieldCount + atFar
-
-abbrev pub near2 : ℕ
-near2 = fieldCount + atNear
-
-abbrev pub low2 : ℕ
-low2 = fieldCount + atLow
-
-abbrev pub high2 : ℕ
-high2 = fieldCount + atHigh
-
-abbrev pub device2 : ℕ
-device2 = fieldCount + atDevice
-
-abbrev pub ceiling2 : ℕ
-ceiling2 = fieldCount + atCeiling
 
 -- two rows of equal volts, work 10,000 and 90,000, fed by a third
 unfoldable pub underOne : List ℕ
@@ -77,7 +49,7 @@ laterCard = 318000 ∷ 1900 ∷ 1300000 ∷ 360000 ∷ 2400 ∷ 4290000 ∷ []
 -- [02 §2] the list with row 2 offering pickups from 400,000 on only, and row 1 with this far. By P4, 12 × 400,000 = 10 × 480,000; by P3
 -- row 1 needs 477,000
 abbrev backedUp : ℕ → List ℕ
-backedUp far = set (set twoRows low2 400000) far1 far
+backedUp far = with (with twoRows 2 atLow 400000) 1 atFar far
 
 unfoldable pub backedCard : List ℕ
 backedCard = 318000 ∷ 1900 ∷ 1300000 ∷ 400000 ∷ 2200 ∷ 4290000 ∷ []
@@ -103,13 +75,13 @@ heldTo a b I met = worked (clears underOne (pickups a b) 2 I) (clear met)
 unfoldable pub table : List Worked
 table =
     done twoRows twoCard
-    ∷ done (set twoRows far2 540000) twoCard
-    ∷ refused (set twoRows far2 539999) 12 2 0
-    ∷ done (set twoRows ceiling2 2200) twoCard
-    ∷ refused (set twoRows ceiling2 2199) 7 2 0
-    ∷ done (set twoRows near2 5148000) twoCard
-    ∷ done (set twoRows near2 5147999) (318000 ∷ 1900 ∷ 1300000 ∷ 360000 ∷ 2200 ∷ 0 ∷ [])
-    ∷ becomes twoRows twoCard 190000 900000 (set twoRows work1 190000) (336000 ∷ 1900 ∷ 1300000 ∷ 370000 ∷ 2200 ∷ 4290000 ∷ [])
+    ∷ done (with twoRows 2 atFar 540000) twoCard
+    ∷ refused (with twoRows 2 atFar 539999) 12 2 0
+    ∷ done (with twoRows 2 atCeiling 2200) twoCard
+    ∷ refused (with twoRows 2 atCeiling 2199) 7 2 0
+    ∷ done (with twoRows 2 atNear 5148000) twoCard
+    ∷ done (with twoRows 2 atNear 5147999) (318000 ∷ 1900 ∷ 1300000 ∷ 360000 ∷ 2200 ∷ 0 ∷ [])
+    ∷ becomes twoRows twoCard 190000 900000 (with twoRows 1 atWork 190000) (336000 ∷ 1900 ∷ 1300000 ∷ 370000 ∷ 2200 ∷ 4290000 ∷ [])
     ∷ stays twoRows twoCard 180000 431000 12 1 0
     ∷ heldTo 100000 99000 209000 true
     ∷ heldTo 100000 99000 208999 false
@@ -117,21 +89,21 @@ table =
     ∷ heldTo 100000 101000 208999 false
     ∷ heldTo 100000 101000 122100 false
     -- [02 §2] RANGE: by P2 row 2 needs 1.1 × 318,000, and by P1 352,942; row 1 by P1 317,648. The cutoff is then above what is offered.
-    ∷ done (set twoRows high2 360000) (318000 ∷ 1900 ∷ 1300000 ∷ 360000 ∷ 2200 ∷ 0 ∷ [])
-    ∷ refused (set twoRows high2 359999) 11 2 0
-    ∷ done (set twoRows high1 318000) (318000 ∷ 1900 ∷ 0 ∷ 360000 ∷ 2200 ∷ 4290000 ∷ [])
-    ∷ refused (set twoRows high1 317999) 11 1 0
+    ∷ done (with twoRows 2 atHigh 360000) (318000 ∷ 1900 ∷ 1300000 ∷ 360000 ∷ 2200 ∷ 0 ∷ [])
+    ∷ refused (with twoRows 2 atHigh 359999) 11 2 0
+    ∷ done (with twoRows 1 atHigh 318000) (318000 ∷ 1900 ∷ 0 ∷ 360000 ∷ 2200 ∷ 4290000 ∷ [])
+    ∷ refused (with twoRows 1 atHigh 317999) 11 1 0
     -- in a replacement by the new row's pickup: 1.1 × 336,000 = 369,600
-    ∷ becomes (set twoRows high2 370000) (set twoCard 5 0) 190000 900000 (set (set twoRows high2 370000) work1 190000)
+    ∷ becomes (with twoRows 2 atHigh 370000) (set twoCard 5 0) 190000 900000 (with (with twoRows 2 atHigh 370000) 1 atWork 190000)
     (336000 ∷ 1900 ∷ 1300000 ∷ 370000 ∷ 2200 ∷ 0 ∷ [])
-    ∷ stays (set twoRows high2 369999) (set twoCard 5 0) 190000 900000 11 2 0
+    ∷ stays (with twoRows 2 atHigh 369999) (set twoCard 5 0) 190000 900000 11 2 0
     -- BACKUP of row 1 by row 2, calculated and replaced
     ∷ done (backedUp 480000) backedCard
     ∷ refused (backedUp 479999) 13 2 1
     ∷ becomes (backedUp 900000) backedCard 180000 480000 (backedUp 480000) backedCard
     ∷ stays (backedUp 900000) backedCard 180000 479999 13 2 1
     -- [02 §5]
-    ∷ done (set twoRows device2 2) laterCard
-    ∷ done (set (set twoRows device2 2) ceiling2 2400) laterCard
-    ∷ refused (set (set twoRows device2 2) ceiling2 2399) 7 2 0
+    ∷ done (with twoRows 2 atDevice 2) laterCard
+    ∷ done (with (with twoRows 2 atDevice 2) 2 atCeiling 2400) laterCard
+    ∷ refused (with (with twoRows 2 atDevice 2) 2 atCeiling 2399) 7 2 0
     ∷ []

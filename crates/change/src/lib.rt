@@ -63,7 +63,8 @@ fn answer(list: &mut [u64], card: &mut [u64], place: u64, row: &[u64]) -> Answer
     exchange(list, card, (place - 1) as usize, row)
 }
 
-// The public entry: replaces the row at `place` and works out its path on the card, or refuses by number, place and field.
+// The public entry: replaces the row at `place` and works out its path on the card, or refuses by its
+// numbers, as the whole calculation does.
 pub fn replace(list: &mut [u64], card: &mut [u64], place: u64, row: &[u64]) -> [u64; NUMBERS]
     ensures { λ g. ⌜ Gave (replaced (now (list .entry)) (now (card .entry)) place (now (row .entry))) g (now (list .exit)) (now (card .exit)) ⌝ }
 {

@@ -6,7 +6,7 @@ use Prim.Native.Nat.{ℕ, _+_, _-_, _*_, _≤_, _<_}
 use native.Mathlib.Nat.{mul-le-mul, mul-le-mul-left, mul-assoc, le-trans}
 use native.Mathlib.Omega.{arith}
 use lib.Dec.{leb, eqb}
-use borrow.Author.Tests.{le-leb, leb-true, eq-eqb, ne-eqb, eqb-true, eqb-false}
+use borrow.Author.Tests.{le-leb, leb-true, eq-eqb, ne-eqb, eqb-true}
 use Rattle.fold.specs.Fold.{maxTo}
 use Rattle.fold.proofs.BoolLaws.{passes-or-fails, same-test}
 use Rattle.fold.proofs.FoldLaws.{Attained, maxTo-attained, le-maxTo, sumTo-zero, sumTo-others}
@@ -26,11 +26,8 @@ counted-fed : {b : Bool} (x : ℕ) → b ≡ true → cond b x 0 ≡ x
 counted-fed x e = rw e
 
 -- a row's shortfall counts only where it is backed
-shortfall-backed : (f : Row) → f .backed ≡ 1 → shortfall f ≡ reach - f .far * f .volts
-shortfall-backed f e = ap (λ (b : Bool). cond b (reach - f .far * f .volts) 0) (eq-eqb (f .backed) 1 e)
-
-shortfall-none : (f : Row) → (f .backed ≡ 1 → ⊥) → shortfall f ≡ 0
-shortfall-none f n = ap (λ (b : Bool). cond b (reach - f .far * f .volts) 0) (ne-eqb (f .backed) 1 n)
+shortfall-by : (f : Row) (b : Bool) → eqb (f .backed) 1 ≡ b → shortfall f ≡ cond b (reach - f .far * f .volts) 0
+shortfall-by f b e = ap (λ (b : Bool). cond b (reach - f .far * f .volts) 0) e
 
 -- the greatest of the numbers that count is 0 or one of them
 record Greatest (on : ℕ → Bool) (f : ℕ → ℕ) (n m : ℕ) : Type 0 where
@@ -117,7 +114,7 @@ module _ (v : View) (a : AllBounded v) (k : Settings) (i : ℕ) (h : i < v .coun
         leb-true (12 * I * v .row i .volts) (10 * (reach - gathered v k i .shortfall)) t,
         le-maxTo (λ j. cond (fed v i j) (shortfall (v .row j)) 0) (v .count) j b,
         counted-fed (shortfall r) (fed-exactly v i j .1 f),
-        shortfall-backed r backed,
+        shortfall-by r true (eq-eqb (r .backed) 1 backed),
         mul-assoc 10 (r .far) (r .volts),
         far-to j b,
       )
@@ -133,10 +130,9 @@ module _ (v : View) (a : AllBounded v) (k : Settings) (i : ℕ) (h : i < v .coun
       let r = v .row (m .at) in
       ⊎-elim
       (λ (backed : eqb (r .backed) 1 ≡ true).
-      let e = eqb-true (r .backed) 1 backed in
-      let c = all (m .at) (m .below) (fed-exactly v i (m .at) .0 (m .counts)) e in
-      omega (arith, shortfall-backed r e, mul-assoc 10 (r .far) (r .volts), m .is, far-to (m .at) (m .below)))
-      (λ (backed : eqb (r .backed) 1 ≡ false). omega (arith, shortfall-none r (eqb-false (r .backed) 1 backed), m .is))
+      let c = all (m .at) (m .below) (fed-exactly v i (m .at) .0 (m .counts)) (eqb-true (r .backed) 1 backed) in
+      omega (arith, shortfall-by r true backed, mul-assoc 10 (r .far) (r .volts), m .is, far-to (m .at) (m .below)))
+      (λ (backed : eqb (r .backed) 1 ≡ false). omega (arith, shortfall-by r false backed, m .is))
       (passes-or-fails (eqb (r .backed) 1)))
       (greatest (fed v i) (λ j. shortfall (v .row j)) (v .count))
 

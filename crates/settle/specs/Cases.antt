@@ -109,9 +109,9 @@ conditions =
     ∷ holds (seesNear (row 3) 1525000) ∷ fails (seesNear (row 3) 1525001)
     ∷ []
 
--- row n settled: its card row, or the numbers of its refusal
+-- row n settled: 0 and its card row, or the numbers of its refusal
 abbrev outcome : ℕ → Settled → List ℕ
-outcome n (Set o) = columnsOf (shown o)
+outcome n (Set o) = 0 ∷ columnsOf (shown o)
 outcome n (Unset why) = givenBy (Unsettled n why)
 
 -- two lists have the same numbers
@@ -122,11 +122,21 @@ same (x ∷ xs) [] = false
 same (x ∷ xs) (y ∷ ys) = eqb x y && same xs ys
 
 -- row n of the list comes to these numbers
+abbrev comesTo : List ℕ → ℕ → List ℕ → Bool
+comesTo l n o = same (outcome n (settled (viewOf l) below (n - 1))) o
+
+-- it is settled with this card row; row 4 is, as in `network`; row n is refused, with the fed row where one is named
 abbrev settles : List ℕ → ℕ → List ℕ → Bool
-settles l n o = same (outcome n (settled (viewOf l) below (n - 1))) o
+settles l n k = comesTo l n (0 ∷ k)
+
+abbrev stands : List ℕ → Bool
+stands l = settles l 4 (121000 ∷ 1200 ∷ 1301000 ∷ [])
+
+abbrev refuses : List ℕ → ℕ → ℕ → ℕ → Bool
+refuses l n number fed = comesTo l n (number ∷ n ∷ fed ∷ [])
 
 -- the list with another number in a field of row n
-abbrev with : List ℕ → ℕ → ℕ → ℕ → List ℕ
+abbrev pub with : List ℕ → ℕ → ℕ → ℕ → List ℕ
 with l n k x = set l ((n - 1) * fieldCount + k) x
 
 unfoldable pub settlings : List Bool
@@ -134,46 +144,46 @@ settlings =
     settles network 1 (12100 ∷ 0 ∷ 122100 ∷ [])
     ∷ settles network 2 (41250 ∷ 900 ∷ 501250 ∷ [])
     ∷ settles network 3 (825000 ∷ 100 ∷ 1525000 ∷ [])
-    ∷ settles network 4 (121000 ∷ 1200 ∷ 1301000 ∷ [])
+    ∷ stands network
     -- the least pickup offered is 61,001 + 3 × 20,000; a cutoff at 1,301,001 would not see its near fault
     ∷ settles (with network 4 atLow 61001) 4 (121001 ∷ 1200 ∷ 0 ∷ [])
     -- the greatest offered is the pickup, and none is left for the cutoff; one less, and none meets P2, or P1: RANGE
     ∷ settles (with network 4 atHigh 121000) 4 (121000 ∷ 1200 ∷ 0 ∷ [])
-    ∷ settles (with network 4 atHigh 120999) 4 (11 ∷ 4 ∷ 0 ∷ [])
+    ∷ refuses (with network 4 atHigh 120999) 4 11 0
     ∷ settles (with network 1 atHigh 12100) 1 (12100 ∷ 0 ∷ 0 ∷ [])
-    ∷ settles (with network 1 atHigh 12099) 1 (11 ∷ 1 ∷ 0 ∷ [])
+    ∷ refuses (with network 1 atHigh 12099) 1 11 0
     -- P3 at the least pickup and one off: OWN ZONE. P4 of the motor, row 3, which BACKUP names: the transformer's far is too small too,
     -- but it is not backed. P4 of the transformer, backed
-    ∷ settles (with network 4 atFar 181500) 4 (121000 ∷ 1200 ∷ 1301000 ∷ [])
-    ∷ settles (with network 4 atFar 181499) 4 (12 ∷ 4 ∷ 0 ∷ [])
-    ∷ settles (with network 3 atFar 2178000) 4 (121000 ∷ 1200 ∷ 1301000 ∷ [])
-    ∷ settles (with network 3 atFar 2177999) 4 (13 ∷ 4 ∷ 3 ∷ [])
-    ∷ settles (with (with network 2 atBacked 1) 2 atFar 87120) 4 (121000 ∷ 1200 ∷ 1301000 ∷ [])
-    ∷ settles (with (with network 2 atBacked 1) 2 atFar 87119) 4 (13 ∷ 4 ∷ 2 ∷ [])
+    ∷ stands (with network 4 atFar 181500)
+    ∷ refuses (with network 4 atFar 181499) 4 12 0
+    ∷ stands (with network 3 atFar 2178000)
+    ∷ refuses (with network 3 atFar 2177999) 4 13 3
+    ∷ stands (with (with network 2 atBacked 1) 2 atFar 87120)
+    ∷ refuses (with (with network 2 atBacked 1) 2 atFar 87119) 4 13 2
     -- both fail, the later one by more: the first is named; the own zone before them, and RANGE before it
-    ∷ settles (with (with (with network 2 atBacked 1) 2 atFar 87119) 3 atFar 1) 4 (13 ∷ 4 ∷ 2 ∷ [])
-    ∷ settles (with (with network 3 atFar 2177999) 4 atFar 181499) 4 (12 ∷ 4 ∷ 0 ∷ [])
-    ∷ settles (with (with network 4 atFar 1) 4 atHigh 120999) 4 (11 ∷ 4 ∷ 0 ∷ [])
+    ∷ refuses (with (with (with network 2 atBacked 1) 2 atFar 87119) 3 atFar 1) 4 13 2
+    ∷ refuses (with (with network 3 atFar 2177999) 4 atFar 181499) 4 12 0
+    ∷ refuses (with (with network 4 atFar 1) 4 atHigh 120999) 4 11 0
     -- row 1 feeds nothing: far alone, here at 15 × 12,100 = 10 × 18,150
     ∷ settles (with network 1 atFar 18150) 1 (12100 ∷ 0 ∷ 122100 ∷ [])
-    ∷ settles (with network 1 atFar 18149) 1 (12 ∷ 1 ∷ 0 ∷ [])
+    ∷ refuses (with network 1 atFar 18149) 1 12 0
     -- the delay at the ceiling and one off; from the floor on
-    ∷ settles (with network 4 atCeiling 1200) 4 (121000 ∷ 1200 ∷ 1301000 ∷ [])
-    ∷ settles (with network 4 atCeiling 1199) 4 (7 ∷ 4 ∷ 0 ∷ [])
+    ∷ stands (with network 4 atCeiling 1200)
+    ∷ refuses (with network 4 atCeiling 1199) 4 7 0
     ∷ settles (with network 4 atFloor 1201) 4 (121000 ∷ 1201 ∷ 1301000 ∷ [])
     ∷ settles (with network 3 atCeiling 100) 3 (825000 ∷ 100 ∷ 1525000 ∷ [])
-    ∷ settles (with network 3 atCeiling 99) 3 (7 ∷ 3 ∷ 0 ∷ [])
+    ∷ refuses (with network 3 atCeiling 99) 3 7 0
     -- the row's own device at the ceiling and one off; device 3 waits for the fed row's 300
-    ∷ settles (with network 2 atCeiling 899) 2 (7 ∷ 2 ∷ 0 ∷ [])
+    ∷ refuses (with network 2 atCeiling 899) 2 7 0
     ∷ settles (with (with network 2 atDevice 3) 2 atCeiling 700) 2 (41250 ∷ 700 ∷ 501250 ∷ [])
-    ∷ settles (with (with network 2 atDevice 3) 2 atCeiling 699) 2 (7 ∷ 2 ∷ 0 ∷ [])
+    ∷ refuses (with (with network 2 atDevice 3) 2 atCeiling 699) 2 7 0
     -- neither a pickup nor a delay: 11, 12 and 13 before 7
-    ∷ settles (with (with network 4 atHigh 120999) 4 atCeiling 1199) 4 (11 ∷ 4 ∷ 0 ∷ [])
-    ∷ settles (with (with network 4 atFar 181499) 4 atCeiling 1199) 4 (12 ∷ 4 ∷ 0 ∷ [])
-    ∷ settles (with (with network 3 atFar 2177999) 4 atCeiling 1199) 4 (13 ∷ 4 ∷ 3 ∷ [])
+    ∷ refuses (with (with network 4 atHigh 120999) 4 atCeiling 1199) 4 11 0
+    ∷ refuses (with (with network 4 atFar 181499) 4 atCeiling 1199) 4 12 0
+    ∷ refuses (with (with network 3 atFar 2177999) 4 atCeiling 1199) 4 13 3
     -- the cutoff of a line one off, and the same row as a transformer
     ∷ settles (with network 4 atNear 1561199) 4 (121000 ∷ 1200 ∷ 0 ∷ [])
     ∷ settles (with network 4 atKind 2) 4 (121000 ∷ 1200 ∷ 0 ∷ [])
-    ∷ settles (with (with network 4 atKind 2) 4 atNear 2602000) 4 (121000 ∷ 1200 ∷ 1301000 ∷ [])
+    ∷ stands (with (with network 4 atKind 2) 4 atNear 2602000)
     ∷ settles (with (with network 4 atKind 2) 4 atNear 2601999) 4 (121000 ∷ 1200 ∷ 0 ∷ [])
     ∷ []

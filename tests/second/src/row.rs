@@ -25,15 +25,23 @@ impl Bound {
     }
 }
 
-/// The table of section 2 makes the row, its numbers and their bounds.
+/// The table of section 2 makes the row, its numbers, their bounds and the field numbers.
 macro_rules! fields {
-    ($($name:ident $column:literal $least:literal $greatest:expr;)*) => {
+    ($($name:ident $number:ident $column:literal $least:literal $greatest:expr;)*) => {
         #[derive(Clone, Copy, Debug, PartialEq, Eq)]
         pub struct Row {
             $(pub $name: u64,)*
         }
 
         pub const FIELDS: usize = [$($column),*].len();
+
+        /// The fields by number, from 1.
+        pub mod field {
+            #[allow(non_camel_case_types, clippy::upper_case_acronyms)]
+            enum At { $($number),* }
+
+            $(pub const $number: usize = At::$number as usize + 1;)*
+        }
 
         pub const BOUNDS: [Bound; FIELDS] = [
             $(Bound { column: $column, least: $least, greatest: $greatest },)*
@@ -53,28 +61,25 @@ macro_rules! fields {
 }
 
 fields! {
-    row "row" 1 MOST_ROWS as u64;
-    feeds_from "feeds_from" 0 MOST_ROWS as u64;
-    kind "kind" 1 MOTOR;
-    volts "volts" 100 500_000;
-    work "work" 1 MOST_CURRENT;
-    selfstart "selfstart" 1_000 10_000;
-    return_factor "return" 800 1_000;
-    far "far" 1 MOST_CURRENT;
-    clear "clear" 1 MOST_CURRENT;
-    near "near" 1 MOST_CURRENT;
-    factor "factor" 1_000 2_000;
-    low "low" 1 MOST_CURRENT;
-    high "high" 1 MOST_CURRENT;
-    step "step" 1 MOST_CURRENT;
-    device "device" 1 3;
-    floor "floor" 0 MOST_DELAY;
-    ceiling "ceiling" 0 MOST_DELAY;
-    backed "backed" 0 1;
+    row ROW "row" 1 MOST_ROWS as u64;
+    feeds_from FEEDS_FROM "feeds_from" 0 MOST_ROWS as u64;
+    kind KIND "kind" 1 MOTOR;
+    volts VOLTS "volts" 100 500_000;
+    work WORK "work" 1 MOST_CURRENT;
+    selfstart SELFSTART "selfstart" 1_000 10_000;
+    return_factor RETURN "return" 800 1_000;
+    far FAR "far" 1 MOST_CURRENT;
+    clear CLEAR "clear" 1 MOST_CURRENT;
+    near NEAR "near" 1 MOST_CURRENT;
+    factor FACTOR "factor" 1_000 2_000;
+    low LOW "low" 1 MOST_CURRENT;
+    high HIGH "high" 1 MOST_CURRENT;
+    step STEP "step" 1 MOST_CURRENT;
+    device DEVICE "device" 1 3;
+    floor FLOOR "floor" 0 MOST_DELAY;
+    ceiling CEILING "ceiling" 0 MOST_DELAY;
+    backed BACKED "backed" 0 1;
 }
-
-/// The field named where low is above high.
-pub const LOW: u64 = 12;
 
 /// The columns of a card row with the bounds of CARD.
 pub const CARD_BOUNDS: [Bound; 3] = [
@@ -119,7 +124,7 @@ fn faulty_field(place: u64, numbers: &[u64; FIELDS]) -> Option<u64> {
         }
     }
     let row = Row::read(numbers);
-    (row.low > row.high).then_some(LOW)
+    (row.low > row.high).then_some(field::LOW as u64)
 }
 
 /// The last row is fed by the source, every other by a later row, never by a motor.

@@ -3,7 +3,7 @@
 
 use second::answer::{Answer, BACKUP, DELAY, FIELD, OWN_ZONE, RANGE};
 use second::replace::{replace, Ledger};
-use second::row::{numbers_of, Row, FIELDS, LINE};
+use second::row::{field::*, numbers_of, Row, FIELDS, LINE};
 use second::whole::whole;
 use second::{fast, generate, text};
 
@@ -39,14 +39,6 @@ fn rows() -> [Row; 3] {
 }
 
 const CARD: [u64; 9] = [100_000, 100, 1_300_000, 99_000, 200, 1_300_000, 209_000, 500, 1_300_000];
-
-const VOLTS: usize = 4;
-const FAR: usize = 8;
-const LOW: usize = 12;
-const HIGH: usize = 13;
-const STEP: usize = 14;
-const CEILING: usize = 17;
-const BACKED: usize = 18;
 
 /// Row, field and value.
 type Change = (usize, usize, u64);

@@ -5,7 +5,7 @@ use second::answer::{Answer, DELAY, OWN_ZONE};
 use second::conditions::{stays_clear_of_fed_rows, Fed};
 use second::fast;
 use second::replace::{replace, Ledger};
-use second::row::{numbers_of, Row, FIELDS};
+use second::row::{field::*, numbers_of, Row, FIELDS};
 use second::whole::{whole, Settings};
 
 const LIST: [u64; 2 * FIELDS] = [
@@ -15,13 +15,6 @@ const LIST: [u64; 2 * FIELDS] = [
     10_000_000, 10_000, 1, 0, 3_000, 0,
 ];
 const CARD: [u64; 6] = [318_000, 1_900, 1_300_000, 360_000, 2_200, 4_290_000];
-
-const WORK: usize = 5;
-const FAR: usize = 8;
-const NEAR: usize = 10;
-const LOW: usize = 12;
-const DEVICE: usize = 15;
-const CEILING: usize = 17;
 
 /// The list of section 6 with one field changed.
 fn with(place: usize, field: usize, value: u64) -> Vec<u64> {

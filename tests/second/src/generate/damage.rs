@@ -34,7 +34,7 @@ pub fn field_bounds(list: &[u64], place: u64) -> Vec<Vec<u64>> {
         let values = [0, least.wrapping_sub(1), least, greatest, greatest + 1, u64::MAX];
         lists.extend(values.map(|value| with(at, value)));
     }
-    let (low, high) = (LOW as usize - 1, list[start + LOW as usize]);
+    let (low, high) = (field::LOW - 1, list[start + field::LOW]);
     lists.extend([with(low, high), with(low, high + 1)]);
     lists
 }
@@ -96,7 +96,7 @@ fn damage(rng: &mut Rng, list: &mut Vec<u64>) {
         6..=9 => scatter(rng, list),
         10 => {
             let row = rng.below(count as u64) as usize * FIELDS;
-            list[row + LOW as usize - 1] = list[row + LOW as usize].wrapping_add(1);
+            list[row + field::LOW - 1] = list[row + field::LOW].wrapping_add(1);
         }
         _ => misfeed(rng, list),
     }

@@ -98,7 +98,7 @@ fn out_of_range(rng: &mut Rng, mut row: [u64; FIELDS]) -> Vec<u64> {
     let Bound { least, greatest, .. } = BOUNDS[at];
     row[at] = rng.pick(&[least.wrapping_sub(1), greatest + 1, u64::MAX]);
     if rng.chance(20) {
-        row[LOW as usize - 1] = row[LOW as usize].saturating_add(1);
+        row[field::LOW - 1] = row[field::LOW].saturating_add(1);
     }
     row.to_vec()
 }
