@@ -113,8 +113,8 @@ SurfpocketAnswer surfpocket_replace(uint64_t *list, size_t list_length, uint64_t
 /* The currents of a study in whole mA: gives DONE with the greatest rounded up and the least rounded down, or STUDY with both 0.
    A rated current, in mA, counts per unit only. Order: place 0 for a unit that is none of the three, or a needed rated current
    outside 1 to 100,000,000; then 1 and 2 for a reading that is not a number, infinite, negative, or not 1 to 100,000,000 mA.
-   A reading that is not a number, quiet or signalling, raises the floating-point flag FE_INVALID; no other flag is raised. A caller
-   that has made that flag a trap screens its readings first. */
+   A reading that is not a number may raise the floating-point flag FE_INVALID, as a signalling one does; no other flag is raised.
+   A caller that has made that flag a trap screens its readings first. */
 SurfpocketStudy surfpocket_study(uint64_t greatest_unit, float greatest, uint64_t greatest_rated,
                                  uint64_t least_unit, float least, uint64_t least_rated);
 

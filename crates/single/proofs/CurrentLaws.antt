@@ -6,22 +6,26 @@ use native.Mathlib.Omega.{arith}
 use mathlib.Core.Path.{_≡_, refl, sym, ap, _∙_, subst}
 use mathlib.Core.Bool.{Bool, true, false, cond, true≢false}
 use lib.IntN.{ℤ}
-use lib.Dec.{T, ltb}
+use lib.Dec.{T, leb, leb→le}
 use lib.Pow.{pow-pos}
 use lib.Ieee.{Float, nan, inf, fin, up, down, isNan}
-use lib.Ieee.Fits.{down-pos}
+use lib.Ieee.Fits.{down-pos, and-l, and-r}
 use denote.Floats.{passes}
 use borrow.Author.Tests.{lt-ltb, le-leb}
 use Rattle.fold.proofs.BoolLaws.{zero-not-one}
 use Rattle.single.specs.declared.Rounding.{Rounding}
-use Rattle.single.specs.declared.Current.{Current}
 use Rattle.single.specs.declared.Current.the-variants.{Milliamperes, Refused}
 use Rattle.single.specs.Exact.{wholeOf, Rounds}
 use Rattle.single.specs.SingleCurrent.{allowed, ifAllowed, currentOf, Gives}
 use Rattle.single.proofs.RoundLaws.{whole-rounds, rounds-unique, whole-of-one, whole-same}
-use Rattle.single.proofs.ScreenLaws.{allowed-low, allowed-high}
 
--- ---- what `ifAllowed` gives
+-- ---- what is allowed, and what `ifAllowed` gives
+
+pub allowed-low : (k : ℕ) → T (allowed k) → 1 ≤ k
+allowed-low k h = leb→le 1 k (and-l (leb 1 k) (leb k 100000000) h)
+
+pub allowed-high : (k : ℕ) → T (allowed k) → k ≤ 100000000
+allowed-high k h = leb→le k 100000000 (and-r (leb 1 k) (leb k 100000000) h)
 
 refused-is-none : (k : ℕ) → Refused ≡ Milliamperes k → ⊥
 refused-is-none k h = zero-not-one cc
@@ -48,8 +52,9 @@ module _ (to : Rounding) (n d k : ℕ) (D : 0 < d) where
   rounds-given : Rounds to n d k → 1 ≤ k → k ≤ 100000000 → ifAllowed (wholeOf to n d) ≡ Milliamperes k
   rounds-given r low high = given-allowed (wholeOf to n d) k (rounds-unique to n d (wholeOf to n d) k (whole-rounds to n d D) r) low high
 
-negative-none : (m k : ℕ) (c : Current) → 0 < m → cond (ltb 0 m) Refused c ≡ Milliamperes k → ⊥
-negative-none m k c h g = refused-is-none k (sym (simp (lt-ltb 0 m h)) ∙ g)
+pub negative-refused : (to : Rounding) (m : ℕ) (e : ℤ) (scale : ℕ) → 0 < m → currentOf to (fin true m e) scale ≡ Refused
+unfolding currentOf
+negative-refused to m e scale h = simp (lt-ltb 0 m h)
 
 pub current-gives : (to : Rounding) (x : Float) (scale k : ℕ) → currentOf to x scale ≡ Milliamperes k → Gives to x scale k
 unfolding currentOf
@@ -61,7 +66,7 @@ current-gives to (fin false m e) scale k h =
 current-gives to (fin true zero e) scale k h =
     let g = given-rounds to (0 * up e * scale) (down e) k (down-pos e) h in
     (λ t. refl, g .0, g .1, g .2)
-current-gives to (fin true (suc m) e) scale k h = absurd (negative-none (suc m) k (ifAllowed (wholeOf to (suc m * up e * scale) (down e))) (zero-lt-suc m) h)
+current-gives to (fin true (suc m) e) scale k h = absurd (refused-is-none k (sym (negative-refused to (suc m) e scale (zero-lt-suc m)) ∙ h))
 
 pub gives-current : (to : Rounding) (x : Float) (scale k : ℕ) → Gives to x scale k → currentOf to x scale ≡ Milliamperes k
 unfolding currentOf
@@ -69,12 +74,9 @@ gives-current to nan scale k h = absurd h
 gives-current to (inf s) scale k h = absurd h
 gives-current to (fin false m e) scale k h = rounds-given to (m * up e * scale) (down e) k (down-pos e) (h .1) (h .2) (h .3)
 gives-current to (fin true zero e) scale k h = rounds-given to (0 * up e * scale) (down e) k (down-pos e) (h .1) (h .2) (h .3)
-gives-current to (fin true (suc m) e) scale k h = absurd (none m (h .0 refl))
-  where
-    none : (m : ℕ) → suc m ≡ 0 → ⊥
-    none m g = omega arith
+gives-current to (fin true (suc m) e) scale k h = absurd (omega (arith, h .0 refl))
 
--- ---- refusals
+-- ---- other refusals
 
 -- zero over anything is 0, which is not allowed
 zero-mA : (to : Rounding) (e : ℤ) (scale : ℕ) → ifAllowed (wholeOf to (0 * up e * scale) (down e)) ≡ Refused
@@ -88,10 +90,6 @@ unfolding currentOf isNan
 nan-refused to nan scale h = refl
 nan-refused to (inf s) scale h = refl
 nan-refused to (fin s m e) scale h = absurd (true≢false (sym h))
-
-pub negative-refused : (to : Rounding) (m : ℕ) (e : ℤ) (scale : ℕ) → 0 < m → currentOf to (fin true m e) scale ≡ Refused
-unfolding currentOf
-negative-refused to m e scale h = simp (lt-ltb 0 m h)
 
 pub zero-refused : (to : Rounding) (s : Bool) (e : ℤ) (scale : ℕ) → currentOf to (fin s 0 e) scale ≡ Refused
 unfolding currentOf

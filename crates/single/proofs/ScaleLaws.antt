@@ -1,81 +1,52 @@
--- A mantissa below 2 ^ 24 times 2 ^ power times a scale, over 2 ^ 149, as a fraction of two numbers of 64 bits that rounds alike: powers of two
--- are cancelled, and what is left of the denominator is cut to 2 ^ 63, since the numerator is below that.
-use Prim.Native.Nat.{ℕ, _+_, _-_, _*_, _^_, _≤_, _<_}
-use native.Mathlib.Nat.{mul-one, mul-assoc, mul-right-comm, mul-le-mul-left}
+-- The scaling is exact and its mantissa m fits. Over 2 ^ 149, m * 2 ^ i is whole from i = 149 on; below that it is m over 2 ^ (149 - i); and
+-- below i = 98, where this denominator is over 2 ^ 51, which m is below, 2 ^ 51 does as well.
+use Prim.Native.Nat.{ℕ, zero, suc, _+_, _-_, _*_, _^_, _≤_, _<_, max}
+use native.Mathlib.Nat.{mul-one, mul-assoc, mul-right-comm, mul-le-mul-left, le-of-lt, max-eq-left, max-eq-right}
 use native.Mathlib.Omega.{arith}
-use mathlib.Core.Path.{_≡_, sym, ap, _∙_}
+use mathlib.Core.Path.{_≡_, refl, sym, ap, _∙_}
+use mathlib.Core.Logic.{⊎-elim}
 use lib.Pow.{pow-add, pow-pos, pow-mono}
+use Rattle.fold.proofs.BoolLaws.{lt-or-le}
 use Rattle.single.specs.declared.Rounding.{Rounding}
-use Rattle.single.specs.declared.Magnitude.{Magnitude}
 use Rattle.single.specs.Exact.{wholeOf}
-use Rattle.single.specs.Steps.{Scalable, RoundsAs}
-use Rattle.single.proofs.RoundLaws.{whole-same, whole-tiny}
+use Rattle.single.specs.Parts.{sizeBy}
+use Rattle.single.proofs.RoundLaws.{whole-of-one, whole-same, whole-tiny}
 
--- ---- cancelling powers of two: the 2 ^ p of the numerator, or the whole denominator
+-- ---- the size times a scale
 
-shift-down : (to : Rounding) (m p q scale : ℕ) → p + q ≡ 149 → wholeOf to (m * scale) (2 ^ q) ≡ wholeOf to (m * 2 ^ p * scale) (2 ^ 149)
-shift-down to m p q scale e =
-    whole-same to (m * scale) (2 ^ q) (m * 2 ^ p * scale) (2 ^ 149) (pow-pos q) (pow-pos 149)
-    (ap (λ (x : ℕ). m * scale * x) (ap (λ (x : ℕ). 2 ^ x) (sym e) ∙ pow-add 2 p q)
-    ∙ sym (mul-assoc (m * scale) (2 ^ p) (2 ^ q))
-    ∙ ap (λ (x : ℕ). x * 2 ^ q) (mul-right-comm m scale (2 ^ p)))
+pub mantissa-small : (m scale : ℕ) → m < 2 ^ 24 → scale ≤ 100000000 → m * scale < 2 ^ 51
+mantissa-small m scale h s = omega (arith, mul-le-mul-left m s)
 
-shift-up : (to : Rounding) (m p q scale : ℕ) → q + 149 ≡ p → wholeOf to (m * scale * 2 ^ q) 1 ≡ wholeOf to (m * 2 ^ p * scale) (2 ^ 149)
-shift-up to m p q scale e =
-    whole-same to (m * scale * 2 ^ q) 1 (m * 2 ^ p * scale) (2 ^ 149) (pow-pos 0) (pow-pos 149)
-    (mul-assoc (m * scale) (2 ^ q) (2 ^ 149)
-    ∙ ap (λ (x : ℕ). m * scale * x) (sym (pow-add 2 q 149) ∙ ap (λ (x : ℕ). 2 ^ x) e)
-    ∙ mul-right-comm m scale (2 ^ p)
-    ∙ sym (mul-one (m * 2 ^ p * scale)))
+pub scaled-at-0 : (e t scale : ℕ) → e ≡ 0 → t * scale * 2 ^ 0 ≡ sizeBy e t * scale
+scaled-at-0 zero t scale h = mul-one (t * scale)
+scaled-at-0 (suc e) t scale h = absurd (omega arith)
 
--- ---- the products and the three answers of `scaled`
+pub scaled-above-0 : (e t scale : ℕ) → (e ≡ 0 → ⊥) → (2 ^ 23 + t) * scale * 2 ^ (e - 1) ≡ sizeBy e t * scale
+scaled-above-0 zero t scale h = absurd (h refl)
+scaled-above-0 (suc e) t scale h = let one-less : suc e - 1 ≡ e = omega arith in rw one-less (mul-right-comm (2 ^ 23 + t) scale (2 ^ e))
 
-module _ {g : Magnitude} {scale : ℕ} (s : Scalable g scale) where
-  abbrev m : ℕ
-  m = g .mantissa
+-- ---- m * 2 ^ i over 2 ^ 149, rounded
 
-  abbrev p : ℕ
-  p = g .power
+cancelled : (to : Rounding) (m i j k : ℕ) → j + 149 ≡ i + k → wholeOf to (m * 2 ^ j) (2 ^ k) ≡ wholeOf to (m * 2 ^ i) (2 ^ 149)
+cancelled to m i j k e =
+    let same : 2 ^ j * 2 ^ 149 ≡ 2 ^ i * 2 ^ k = sym (pow-add 2 j 149) ∙ ap (λ (n : ℕ). 2 ^ n) e ∙ pow-add 2 i k in
+    whole-same to (m * 2 ^ j) (2 ^ k) (m * 2 ^ i) (2 ^ 149) (pow-pos k) (pow-pos 149)
+    (mul-assoc m (2 ^ j) (2 ^ 149) ∙ ap (λ (n : ℕ). m * n) same ∙ sym (mul-assoc m (2 ^ i) (2 ^ k)))
 
-  pub product-small : m * scale < 2 ^ 51
-  product-small = omega (arith, s .mantissa-small, mul-le-mul-left m (s .scale-small))
+pub whole-from : (to : Rounding) (m i : ℕ) → 149 ≤ i → m * 2 ^ (i - 149) ≡ wholeOf to (m * 2 ^ i) (2 ^ 149)
+whole-from to m i h = sym (whole-of-one to (m * 2 ^ (i - 149))) ∙ cancelled to m i (i - 149) 0 (omega arith)
 
-  pub shifted-small : m * scale * 2 ^ (p - 149) < 2 ^ 54
-  shifted-small =
-      let reach : p - 149 ≤ 3 = omega (arith, s .power-small) in
-      omega (arith, product-small, mul-le-mul-left (m * scale) (pow-mono reach))
+fewer-places : (to : Rounding) (m i : ℕ) → i < 149 → wholeOf to m (2 ^ (149 - i)) ≡ wholeOf to (m * 2 ^ i) (2 ^ 149)
+fewer-places to m i h = ap (λ (n : ℕ). wholeOf to n (2 ^ (149 - i))) (sym (mul-one m)) ∙ cancelled to m i 0 (149 - i) (omega arith)
 
-  pub cut : p < 86 → RoundsAs (m * 2 ^ p * scale) (2 ^ 149) (record { num = m * scale; den = 2 ^ 63 })
-  cut h =
-      let q = 149 - p in
-      let reach : 63 ≤ q = omega arith in
-      let whole : p + q ≡ 149 = omega arith in
-      let under : m * scale < 2 ^ 63 = omega (arith, product-small) in
-      let under-q : m * scale < 2 ^ q = omega (arith, product-small, pow-mono reach) in
-      record {
-        alike = λ to. whole-tiny to (m * scale) (2 ^ 63) (2 ^ q) (pow-pos 63) (pow-pos q) under under-q ∙ shift-down to m p q scale whole;
-        num-small = under;
-        den-positive = pow-pos 63;
-        den-small = omega arith;
-      }
-
-  pub divided : 86 ≤ p → p < 149 → RoundsAs (m * 2 ^ p * scale) (2 ^ 149) (record { num = m * scale; den = 2 ^ (149 - p) })
-  divided l h =
-      let reach : 149 - p ≤ 63 = omega arith in
-      let whole : p + (149 - p) ≡ 149 = omega arith in
-      record {
-        alike = λ to. shift-down to m p (149 - p) scale whole;
-        num-small = omega (arith, product-small);
-        den-positive = pow-pos (149 - p);
-        den-small = pow-mono reach;
-      }
-
-  pub multiplied : 149 ≤ p → RoundsAs (m * 2 ^ p * scale) (2 ^ 149) (record { num = m * scale * 2 ^ (p - 149); den = 1 })
-  multiplied l =
-      let whole : p - 149 + 149 ≡ p = omega arith in
-      record {
-        alike = λ to. shift-up to m p (p - 149) scale whole;
-        num-small = omega (arith, shifted-small);
-        den-positive = pow-pos 0;
-        den-small = omega arith;
-      }
+pub divided : (to : Rounding) (m i : ℕ) → m < 2 ^ 51 → i < 149 → wholeOf to m (2 ^ (149 - max i 98)) ≡ wholeOf to (m * 2 ^ i) (2 ^ 149)
+divided to m i small h =
+    ⊎-elim
+    (λ (l : i < 98).
+    let reach : 51 ≤ 149 - i = omega arith in
+    let under : m < 2 ^ (149 - i) = omega (arith, pow-mono reach) in
+    ap (λ (q : ℕ). wholeOf to m (2 ^ (149 - q))) (max-eq-right (le-of-lt l))
+    ∙ whole-tiny to m (2 ^ 51) (2 ^ (149 - i)) (pow-pos 51) (pow-pos (149 - i)) small under
+    ∙ fewer-places to m i h)
+    (λ (l : 98 ≤ i). ap (λ (q : ℕ). wholeOf to m (2 ^ (149 - q))) (max-eq-left l) ∙ fewer-places to m i h)
+    (lt-or-le i 98)

@@ -1,4 +1,4 @@
 pub mod Cases
 pub mod Exact
+pub mod Parts
 pub mod SingleCurrent
-pub mod Steps

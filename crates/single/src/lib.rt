@@ -1,11 +1,17 @@
-// One single in whole milliamperes [01 §5]: screened by comparison, taken apart by its bits, and from there on whole numbers only.
+// One single in whole milliamperes [01 §5]: its bits taken apart into sign, exponent and fraction, the number they stand for scaled, and the product
+// rounded [02 §4], all by whole numbers. The single nearest 0.1 has the bits 0x3dcc_cccd: sign 0, exponent 123 and fraction 5,033,165. In kA it is
+// scaled by 1,000,000: (8,388,608 + 5,033,165) * 1,000,000 / 2 ^ 27, where 8,388,608 is the leading one, 2 ^ 23, and 27 is 149 - (123 - 1). That is
+// 100,000.0015 mA, so 100,001 rounded up and 100,000 down.
 
 ghost use mathlib.Core.Path.{_≡_};
-ghost use Prim.Native.Nat.{_*_, _^_, _<_, _≤_};
+ghost use Prim.Native.Nat.{_*_, _^_};
 ghost use lib.Dec.{T};
+ghost use lib.Ieee.{binary32, toBits};
 ghost use Rattle.single.specs.Exact.{wholeOf};
-ghost use Rattle.single.specs.Steps.{Screened, SizeOf, Scalable, RoundsAs};
+ghost use Rattle.single.specs.Parts.{partsOf, Scalable, ScaledBy, Roundable};
 ghost use Rattle.single.specs.SingleCurrent.{allowed, currentOf};
+use grid::ceil_div;
+use grid::greater;
 
 // A current in whole mA, from 1 to 100,000,000, or a refusal.
 pub enum Current {
@@ -18,14 +24,15 @@ pub enum Rounding {
     Down,
 }
 
-// num / den.
-struct Fraction {
-    pub num: u64,
-    pub den: u64,
+// A single's 32 bits: one of sign, which is 1 for a minus, eight of exponent and 23 of fraction.
+struct Parts {
+    pub sign: u64,
+    pub exponent: u64,
+    pub fraction: u64,
 }
 
-// The size of a finite single: mantissa * 2 ^ power times 2 ^ -149, the smallest positive single.
-struct Magnitude {
+// A single times a scale: mantissa * 2 ^ power / 2 ^ 149. 1 / 2 ^ 149 is the smallest positive single.
+struct Product {
     pub mantissa: u64,
     pub power: u64,
 }
@@ -36,89 +43,74 @@ pub fn allowed_current(k: u64) -> bool
     1 <= k && k <= 100000000
 }
 
-fn power_of_two(k: u64) -> u64
-    requires { ⌜ k < 64 ⌝ }
-    ensures { λ r. ⌜ r ≡ 2 ^ k ⌝ }
+// Bit 31, bits 30 to 23 and bits 22 to 0: 0x8000_0000 is 2 ^ 31, and 0x80_0000 is 2 ^ 23. Only what is not a number differs from itself; Rattle gives
+// no bits for it, and one pattern, with exponent 255, stands for all.
+fn parts_of(x: f32) -> Parts
+    ensures { λ r. ⌜ r ≡ partsOf (toBits binary32 x) ⌝ }
 {
-    1u64 << k
+    let bits = if x != x {
+        0x7fc0_0000
+    } else {
+        f32::to_bits(x) as u64
+    };
+    Parts {
+        sign: bits / 0x8000_0000,
+        exponent: bits % 0x8000_0000 / 0x80_0000,
+        fraction: bits % 0x80_0000,
+    }
 }
 
-fn wide(n: u32) -> u64
-    ensures { λ r. ⌜ r ≡ n ⌝ }
+// Without its sign the single is (2 ^ 23 + fraction) * 2 ^ (exponent - 1) / 2 ^ 149, where 2 ^ 23 is a leading one. At exponent 0 it has none, and is
+// fraction / 2 ^ 149.
+fn scaled(parts: Parts, scale: u64) -> Product
+    requires { ⌜ Scalable parts scale ⌝ }
+    ensures { λ r. ⌜ ScaledBy parts scale r ⌝ }
 {
-    n as u64
-}
-
-// Below the sign bit stand an exponent of 8 bits and a fraction of 23. Where the exponent is not 0, a leading one precedes the fraction.
-fn magnitude_of(x: f32) -> Magnitude
-    requires { ⌜ Screened x ⌝ }
-    ensures { λ r. ⌜ SizeOf x r ⌝ }
-{
-    let bits = f32::to_bits(x);
-    let exponent = wide(bits % 0x8000_0000 / 0x80_0000);
-    let fraction = wide(bits % 0x80_0000);
-    if exponent == 0 {
-        return Magnitude {
-            mantissa: fraction,
+    if parts.exponent == 0 {
+        return Product {
+            mantissa: parts.fraction * scale,
             power: 0,
         };
     }
-    Magnitude {
-        mantissa: 0x80_0000 + fraction,
-        power: exponent - 1,
+    Product {
+        mantissa: (0x80_0000 + parts.fraction) * scale,
+        power: parts.exponent - 1,
     }
 }
 
-// The size times the scale, with powers of two cancelled so that both numbers fit. The product is below 2 ^ 51, so a denominator of 2 ^ 63 or more
-// rounds it to 0, or up to 1, whichever it is: 2 ^ 63 stands for all of them.
-fn scaled(g: Magnitude, scale: u64) -> Fraction
-    requires { ⌜ Scalable g scale ⌝ }
-    ensures { λ r. ⌜ RoundsAs (g .mantissa * 2 ^ g .power * scale) (2 ^ 149) r ⌝ }
+// The product to a whole number. From power 149 on it is whole already.
+fn rounded(product: Product, to: Rounding) -> u64
+    requires { ⌜ Roundable product ⌝ }
+    ensures { λ r. ⌜ r ≡ wholeOf to (product .mantissa * 2 ^ product .power) (2 ^ 149) ⌝ }
 {
-    let product = g.mantissa * scale;
-    let power = g.power;
-    if power < 86 {
-        return Fraction {
-            num: product,
-            den: power_of_two(63),
-        };
+    if 149 <= product.power {
+        return product.mantissa << (product.power - 149);
     }
-    if power < 149 {
-        return Fraction {
-            num: product,
-            den: power_of_two(149 - power),
-        };
-    }
-    Fraction {
-        num: product * power_of_two(power - 149),
-        den: 1,
-    }
-}
-
-fn rounded(f: Fraction, to: Rounding) -> u64
-    requires { ⌜ (f .num < 2 ^ 63) × (0 < f .den) × (f .den ≤ 2 ^ 63) ⌝ }
-    ensures { λ r. ⌜ r ≡ wholeOf to (f .num) (f .den) ⌝ }
-{
+    // Below, it is mantissa / 2 ^ (149 - power). The mantissa is below 2 ^ 24 * 2 ^ 27, so over 2 ^ 51 or more it is below 1: 0 rounded down, and 1 up
+    // unless it is 0. So 2 ^ 51, at power 98, stands for all of these.
+    let den = 1u64 << (149 - greater(product.power, 98));
     match to {
-        Rounding::Up => (f.num + (f.den - 1)) / f.den,
-        Rounding::Down => f.num / f.den,
+        Rounding::Up => ceil_div(product.mantissa, den),
+        Rounding::Down => product.mantissa / den,
     }
 }
 
-// A single times a scale, rounded to whole mA. The scale is one of 1 to 100,000,000, as the rated current is.
+// A single times a scale, rounded to whole mA. The scale, in mA for each unit of the single, is from 1 to 100,000,000.
 pub fn whole_current(x: f32, scale: u64, to: Rounding) -> Current
     requires { ⌜ T (allowed scale) ⌝ }
     ensures { λ r. ⌜ r ≡ currentOf to x scale ⌝ }
 {
-    // The comparison fails for a negative number and for what is not a number, and holds for minus zero.
-    if !(0.0 <= x) {
+    let parts = parts_of(x);
+    // From exponent 154 on it is, but for its sign, 2 ^ 23 * 2 ^ 153 / 2 ^ 149 or more: 134,217,728, too much at every scale. At 255 it is not finite.
+    if 154 <= parts.exponent {
         return Current::Refused;
     }
-    // From 2 ^ 27 on, infinity included, every scale gives more than 100,000,000 mA.
-    if !(x < 134217728.0) {
+    // Negative, or minus zero, which counts as zero: neither comes to 1 mA.
+    if parts.sign == 1 {
         return Current::Refused;
     }
-    let k = rounded(scaled(magnitude_of(x), scale), to);
+    let product = scaled(parts, scale);
+    let k = rounded(product, to);
     if allowed_current(k) {
         Current::Milliamperes(k)
     } else {

@@ -1,22 +1,48 @@
--- The public theorems on the study's currents [01 §5], over the definitions that `convert` is proved against. Each is proved by citing a law, or by
--- computing. What a whole study gets, exactly when: Demand1.antt.
+-- The public theorems on the study's currents [01 §5] and on the parts of a single [02 §4], over the definitions that `convert`, and `parts_of` of
+-- `single`, are proved against. Each is proved by citing laws, or by computing. What a whole study gets, exactly when: Demand1.antt.
 use Prim.Native.Nat.{ℕ, suc, _*_, _^_, _≤_, _<_}
 use native.Mathlib.Nat.{mul-one}
-use mathlib.Core.Path.{_≡_, refl, sym, _∙_, subst}
-use mathlib.Core.Bool.{Bool, true, false}
+use mathlib.Core.Path.{_≡_, refl, sym, ap, _∙_, subst}
+use mathlib.Core.Bool.{Bool, true, false, cond}
 use mathlib.Core.List.{[], _∷_, map}
 use lib.IntN.{ℤ, pos, negsuc}
-use lib.Ieee.{Float, inf, fin, binary32, ofBits, nanBits}
-use lib.Ieee.Bits.{nanBits-is}
+use lib.Dec.{T, eqb}
+use lib.Ieee.{Float, nan, inf, fin, binary32, fits, ofBits, toBits, nanBits}
+use lib.Ieee.Bits.{ofBits-toBits, toBits-lt, nanBits-is}
+use lib.Ieee.Exact.{HasValue}
 use Rattle.single.specs.declared.Rounding.{Rounding}
 use Rattle.single.specs.declared.Rounding.the-variants.{Up, Down}
 use Rattle.single.specs.declared.Current.the-variants.{Milliamperes, Refused}
 use Rattle.single.specs.Exact.{wholeOf, Rounds}
+use Rattle.single.specs.Parts.{partsOf, bitsOf, isMinus, sizeOf}
 use Rattle.single.specs.SingleCurrent.{currentOf, Gives}
 use Rattle.study.specs.Currents.{convertOf}
 use Rattle.study.specs.Cases.{Case, table}
+use Rattle.single.proofs.PartsLaws as parts
 use Rattle.single.proofs.RoundLaws as round
 use Rattle.single.proofs.CurrentLaws as current
+
+-- ---- the parts of every single, by its bits
+
+-- Of a single x `parts_of` gives `partsOf (toBits binary32 x)`. The language has one value that is not a number and gives no bits for it; `toBits` has
+-- the pattern 0x7fc0_0000. The theorems are over all patterns.
+
+-- they make up its bits again, be it finite, infinite or not a number
+pub parts-make-bits : (b : ℕ) → b < 2 ^ 32 → bitsOf (partsOf b) ≡ b
+parts-make-bits = parts.parts-make-bits
+
+-- Below exponent 255 it is finite, and they make up its exact value. `HasValue x s a c`: x is finite, has a minus where s is true, and is a / c in size.
+pub parts-make-value : (b : ℕ) → b < 2 ^ 32 → partsOf b .exponent < 255 → HasValue (ofBits binary32 b) (isMinus (partsOf b)) (sizeOf (partsOf b)) (2 ^ 149)
+parts-make-value = parts.parts-make-value
+
+-- from exponent 255 on it is infinite, with its sign, or not a number
+pub parts-not-finite :
+    (b : ℕ) → b < 2 ^ 32 → 255 ≤ partsOf b .exponent → ofBits binary32 b ≡ cond (eqb (partsOf b .fraction) 0) (inf (isMinus (partsOf b))) nan
+parts-not-finite = parts.parts-not-finite
+
+-- what `parts_of` gives makes up bits that are read as the single again
+pub parts-make-single : (x : Float) → T (fits binary32 x) → ofBits binary32 (bitsOf (partsOf (toBits binary32 x))) ≡ x
+parts-make-single x f = ap (ofBits binary32) (parts-make-bits (toBits binary32 x) (toBits-lt binary32 x f)) ∙ ofBits-toBits binary32 x f
 
 -- ---- the fraction n / d rounded down is the greatest whole number at or below it, and rounded up the least at or above it
 
@@ -74,6 +100,13 @@ pub example-singles : map (ofBits binary32) (0x3f00_0000 ∷ 0x42c8_0000 ∷ 0x4
     (negsuc 148) ∷ []
 unfolding ofBits
 example-singles = refl
+
+-- their parts, and those of -0.5, minus infinity and a NaN: sign, exponent and fraction
+pub example-parts : map (λ (b : ℕ). partsOf b .sign ∷ partsOf b .exponent ∷ partsOf b .fraction ∷ [])
+    (0x3f00_0000 ∷ 0x42c8_0000 ∷ 0x42c8_0001 ∷ 0x3dcc_cccd ∷ 1 ∷ 0xbf00_0000 ∷ 0xff80_0000 ∷ 0x7fc0_0000 ∷ [])
+    ≡ (0 ∷ 126 ∷ 0 ∷ []) ∷ (0 ∷ 133 ∷ 4718592 ∷ []) ∷ (0 ∷ 133 ∷ 4718593 ∷ []) ∷ (0 ∷ 123 ∷ 5033165 ∷ []) ∷ (0 ∷ 0 ∷ 1 ∷ [])
+    ∷ (1 ∷ 126 ∷ 0 ∷ []) ∷ (1 ∷ 255 ∷ 0 ∷ []) ∷ (0 ∷ 255 ∷ 4194304 ∷ []) ∷ []
+example-parts = refl
 
 pub cases : map (λ (c : Case). convertOf (c .study)) table ≡ map (λ (c : Case). c .answer) table
 unfolding table convertOf currentOf ofBits

@@ -1,47 +1,42 @@
--- `single::scaled` meets its contract: each branch is one of `cut`, `divided` and `multiplied`, and the products are below 2 ^ 54.
+-- `single::scaled` meets its contract: without and with a leading one the mantissa fits (`mantissa-small`) and the product is exact (`scaled-at-0`,
+-- `scaled-above-0`).
+use Prim.Native.Nat.{_+_, _*_, _^_, _<_}
 use native.Mathlib.Omega.{arith}
 use borrow.Author.Needs.{needs}
-use Rattle.single.proofs.ScaleLaws.{product-small, shifted-small, cut, divided, multiplied}
+use Rattle.single.proofs.ScaleLaws.{mantissa-small, scaled-at-0, scaled-above-0}
 use Rattle.single.proofs.scaled.Statement.{statement}
 use Rattle.single.proofs.scaled.Tie as tie
 
-mul-product : tie.Need-mul-product
-mul-product c = omega (arith, product-small (c .before .pre))
+small-at-0 : (c : tie.Start) → c .args .parts .fraction * c .args .scale < 2 ^ 51
+small-at-0 c = mantissa-small _ _ (omega (arith, c .pre .fraction-small)) (c .pre .scale-small)
 
-power-of-two-requires : tie.Need-power-of-two-requires
-power-of-two-requires c κs = search needs
+small-above-0 : (c : tie.Start) → (2 ^ 23 + c .args .parts .fraction) * c .args .scale < 2 ^ 51
+small-above-0 c = mantissa-small _ _ (omega (arith, c .pre .fraction-small)) (c .pre .scale-small)
+
+mul-t4 : tie.Need-mul-t4
+mul-t4 c = omega (arith, small-at-0 (c .before .before .before))
 
 returns : tie.Need-returns
-returns c = rw (c .power-of-two .ensures) (cut (c .before .before .before .pre) (c .before .if1 .taken))
+returns c =
+    let start = c .before .before .before in
+    record { exact = scaled-at-0 _ _ _ (c .before .if1 .taken); small = record { mantissa-small = small-at-0 start; power-small = omega arith } }
 
-sub-power-of-two : tie.Need-sub-power-of-two
-sub-power-of-two c = search needs
+add-t5 : tie.Need-add-t5
+add-t5 c = search needs
 
-power-of-two-requires-2 : tie.Need-power-of-two-requires-2
-power-of-two-requires-2 c κs = search needs
+mul-t6 : tie.Need-mul-t6
+mul-t6 c = omega (arith, small-above-0 (c .before .before .before))
+
+sub-t7 : tie.Need-sub-t7
+sub-t7 c = search needs
 
 returns-2 : tie.Need-returns-2
-returns-2 c = rw (c .power-of-two2 .ensures) (divided (c .before .before .before .before .pre) (c .before .before .if1 .left) (c .before .if2 .taken))
-
-power-of-two-requires-3 : tie.Need-power-of-two-requires-3
-power-of-two-requires-3 c κs = search needs
-
-mul-t11 : tie.Need-mul-t11
-mul-t11 c = rw (c .power-of-two3 .ensures) (omega (arith, shifted-small (c .before .before .before .before .pre)))
-
-returns-3 : tie.Need-returns-3
-returns-3 c = rw (c .power-of-two3 .ensures) (multiplied (c .before .before .before .before .pre) (c .before .if2 .left))
+returns-2 c =
+    let start = c .before .before .before .before in
+    record {
+      exact = scaled-above-0 _ _ _ (c .before .before .if1 .left);
+      small = record { mantissa-small = small-above-0 start; power-small = omega (arith, start .pre .exponent-small) };
+    }
 
 pub scaled-spec : {M : Type 1} → statement M
-scaled-spec =
-    tie.close
-    (tie.spec
-    mul-product
-    power-of-two-requires
-    returns
-    sub-power-of-two
-    power-of-two-requires-2
-    returns-2
-    power-of-two-requires-3
-    mul-t11
-    returns-3)
+scaled-spec = tie.close (tie.spec mul-t4 returns add-t5 mul-t6 sub-t7 returns-2)
