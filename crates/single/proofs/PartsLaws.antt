@@ -52,4 +52,6 @@ parts-make-value b h e =
 pub parts-not-finite :
     (b : ℕ) → b < 2 ^ 32 → 255 ≤ partsOf b .exponent → ofBits binary32 b ≡ cond (eqb (partsOf b .fraction) 0) (inf (isMinus (partsOf b))) nan
 unfolding ofFields
-parts-not-finite b h e = sym (parts-read b h) ∙ ap (λ (k : ℕ). ofFields binary32 (isMinus (partsOf b)) k (partsOf b .fraction)) (le-antisymm (omega arith) e)
+parts-not-finite b h e =
+    let p = partsOf b in
+    sym (parts-read b h) ∙ ap (λ (k : ℕ). ofFields binary32 (isMinus p) k (p .fraction)) (le-antisymm (omega arith) e)

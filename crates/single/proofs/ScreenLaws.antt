@@ -70,7 +70,8 @@ module _ (to : Rounding) (x : Float) (scale : ℕ) (p : Parts) (f : T (fits bina
   exponent-refused S h =
       ap (λ (v : Float). currentOf to v scale) (sym (parts-read-single x p f is)) ∙ fields-refused to (isMinus p) (p .exponent) (p .fraction) scale S h
 
-  pub by-parts : (s : Bool) → p .exponent < 154 → isMinus p ≡ s → currentOf to x scale ≡ cond s Refused (ifAllowed (wholeOf to (sizeOf p * scale) (2 ^ 149)))
+  pub by-parts : (s : Bool) → p .exponent < 154 → isMinus p ≡ s
+      → currentOf to x scale ≡ cond s Refused (ifAllowed (wholeOf to (sizeOf p * scale) (2 ^ 149)))
   by-parts s h e =
       let fields = ofFields binary32 (isMinus p) (p .exponent) (p .fraction) in
       ap (λ (v : Float). currentOf to v scale) (sym (parts-read-single x p f is))

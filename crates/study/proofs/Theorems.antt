@@ -32,7 +32,8 @@ pub parts-make-bits : (b : ℕ) → b < 2 ^ 32 → bitsOf (partsOf b) ≡ b
 parts-make-bits = parts.parts-make-bits
 
 -- Below exponent 255 it is finite, and they make up its exact value. `HasValue x s a c`: x is finite, has a minus where s is true, and is a / c in size.
-pub parts-make-value : (b : ℕ) → b < 2 ^ 32 → partsOf b .exponent < 255 → HasValue (ofBits binary32 b) (isMinus (partsOf b)) (sizeOf (partsOf b)) (2 ^ 149)
+pub parts-make-value :
+    (b : ℕ) → b < 2 ^ 32 → partsOf b .exponent < 255 → HasValue (ofBits binary32 b) (isMinus (partsOf b)) (sizeOf (partsOf b)) (2 ^ 149)
 parts-make-value = parts.parts-make-value
 
 -- from exponent 255 on it is infinite, with its sign, or not a number
@@ -104,8 +105,8 @@ example-singles = refl
 -- their parts, and those of -0.5, minus infinity and a NaN: sign, exponent and fraction
 pub example-parts : map (λ (b : ℕ). partsOf b .sign ∷ partsOf b .exponent ∷ partsOf b .fraction ∷ [])
     (0x3f00_0000 ∷ 0x42c8_0000 ∷ 0x42c8_0001 ∷ 0x3dcc_cccd ∷ 1 ∷ 0xbf00_0000 ∷ 0xff80_0000 ∷ 0x7fc0_0000 ∷ [])
-    ≡ (0 ∷ 126 ∷ 0 ∷ []) ∷ (0 ∷ 133 ∷ 4718592 ∷ []) ∷ (0 ∷ 133 ∷ 4718593 ∷ []) ∷ (0 ∷ 123 ∷ 5033165 ∷ []) ∷ (0 ∷ 0 ∷ 1 ∷ [])
-    ∷ (1 ∷ 126 ∷ 0 ∷ []) ∷ (1 ∷ 255 ∷ 0 ∷ []) ∷ (0 ∷ 255 ∷ 4194304 ∷ []) ∷ []
+    ≡ (0 ∷ 126 ∷ 0 ∷ []) ∷ (0 ∷ 133 ∷ 4718592 ∷ []) ∷ (0 ∷ 133 ∷ 4718593 ∷ []) ∷ (0 ∷ 123 ∷ 5033165 ∷ [])
+    ∷ (0 ∷ 0 ∷ 1 ∷ []) ∷ (1 ∷ 126 ∷ 0 ∷ []) ∷ (1 ∷ 255 ∷ 0 ∷ []) ∷ (0 ∷ 255 ∷ 4194304 ∷ []) ∷ []
 example-parts = refl
 
 pub cases : map (λ (c : Case). convertOf (c .study)) table ≡ map (λ (c : Case). c .answer) table

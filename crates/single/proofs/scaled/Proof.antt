@@ -1,31 +1,30 @@
 -- `single::scaled` meets its contract: without and with a leading one the mantissa fits (`mantissa-small`) and the product is exact (`scaled-at-0`,
 -- `scaled-above-0`).
-use Prim.Native.Nat.{_+_, _*_, _^_, _<_}
+use Prim.Native.Nat.{ℕ, _+_, _*_, _^_, _≤_, _<_}
 use native.Mathlib.Omega.{arith}
 use borrow.Author.Needs.{needs}
 use Rattle.single.proofs.ScaleLaws.{mantissa-small, scaled-at-0, scaled-above-0}
 use Rattle.single.proofs.scaled.Statement.{statement}
 use Rattle.single.proofs.scaled.Tie as tie
 
-small-at-0 : (c : tie.Start) → c .args .parts .fraction * c .args .scale < 2 ^ 51
-small-at-0 c = mantissa-small _ _ (omega (arith, c .pre .fraction-small)) (c .pre .scale-small)
-
-small-above-0 : (c : tie.Start) → (2 ^ 23 + c .args .parts .fraction) * c .args .scale < 2 ^ 51
-small-above-0 c = mantissa-small _ _ (omega (arith, c .pre .fraction-small)) (c .pre .scale-small)
+small : (c : tie.Start) (leading : ℕ) → leading ≤ 2 ^ 23 → (leading + c .args .parts .fraction) * c .args .scale < 2 ^ 51
+small c leading h = mantissa-small _ _ (omega (arith, c .pre .fraction-small)) (c .pre .scale-small)
 
 mul-t4 : tie.Need-mul-t4
-mul-t4 c = omega (arith, small-at-0 (c .before .before .before))
+mul-t4 c = omega (arith, small (c .before .before .before) 0 (omega arith))
 
 returns : tie.Need-returns
 returns c =
-    let start = c .before .before .before in
-    record { exact = scaled-at-0 _ _ _ (c .before .if1 .taken); small = record { mantissa-small = small-at-0 start; power-small = omega arith } }
+    record {
+      exact = scaled-at-0 _ _ _ (c .before .if1 .taken);
+      small = record { mantissa-small = omega (arith, small (c .before .before .before) 0 (omega arith)); power-small = omega arith };
+    }
 
 add-t5 : tie.Need-add-t5
 add-t5 c = search needs
 
 mul-t6 : tie.Need-mul-t6
-mul-t6 c = omega (arith, small-above-0 (c .before .before .before))
+mul-t6 c = omega (arith, small (c .before .before .before) (2 ^ 23) (omega arith))
 
 sub-t7 : tie.Need-sub-t7
 sub-t7 c = search needs
@@ -35,7 +34,7 @@ returns-2 c =
     let start = c .before .before .before .before in
     record {
       exact = scaled-above-0 _ _ _ (c .before .before .if1 .left);
-      small = record { mantissa-small = small-above-0 start; power-small = omega (arith, start .pre .exponent-small) };
+      small = record { mantissa-small = small start (2 ^ 23) (omega arith); power-small = omega (arith, start .pre .exponent-small) };
     }
 
 pub scaled-spec : {M : Type 1} → statement M
