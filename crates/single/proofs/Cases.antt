@@ -1,4 +1,4 @@
--- The worked cases of a single hold of the definition that the contracts cite: the table computes to what section 5 says.
+-- The worked cases of a single hold of the definition that the contracts cite: the table computes to what the papers say.
 use mathlib.Core.Path.{_≡_, refl}
 use mathlib.Core.List.{map}
 use lib.Ieee.{ofBits}

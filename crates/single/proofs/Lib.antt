@@ -4,3 +4,4 @@ pub mod PartsLaws
 pub mod RoundLaws
 pub mod ScaleLaws
 pub mod ScreenLaws
+pub mod SideLaws

@@ -1,9 +1,9 @@
--- The mA of a single by its parts: refused from exponent 154 on and with a minus sign, and otherwise those of its size.
+-- The sides of a single by its parts: refused from exponent 154 on and with a minus sign, and otherwise those of its size.
 use Prim.Native.Nat.{ℕ, zero, suc, _+_, _*_, _^_, _≤_, _<_}
-use native.Mathlib.Nat.{le-of-eq, le-trans, zero-lt-suc, le-add-right, le-mul-of-pos-right, mul-le-mul, mul-one, mul-right-comm}
+use native.Mathlib.Nat.{le-of-eq, le-trans, zero-lt-suc, le-add-right, le-mul-of-pos-right, mul-le-mul, mul-one}
 use native.Mathlib.Omega.{arith}
 use mathlib.Core.Path.{_≡_, refl, sym, ap, _∙_, subst}
-use mathlib.Core.Bool.{Bool, true, false, cond}
+use mathlib.Core.Bool.{Bool, true, false, _&&_, cond}
 use lib.IntN.{ℤ}
 use lib.Dec.{T, eqb}
 use lib.Pow.{pow-pos, pow-mono}
@@ -12,42 +12,44 @@ use lib.Ieee.Exact.{HasValue, odd-sign}
 use lib.Ieee.Fits.{down-pos}
 use borrow.Author.Tests.{le-leb, lt-leb}
 use Rattle.single.specs.declared.Rounding.{Rounding}
-use Rattle.single.specs.declared.Current.the-variants.{Refused}
+use Rattle.single.specs.declared.Current.the-variants.{Milliamperes, Refused}
 use Rattle.single.specs.declared.Parts.{Parts}
-use Rattle.single.specs.Exact.{wholeOf}
+use Rattle.single.specs.Exact.{wholeOf, sidesOf, used}
 use Rattle.single.specs.Parts.{partsOf, isMinus, sizeOf}
 use Rattle.single.specs.SingleCurrent.{ifAllowed, currentOf}
-use Rattle.single.proofs.RoundLaws.{whole-of-one, whole-mono, whole-same}
-use Rattle.single.proofs.CurrentLaws.{negative-refused, zero-refused}
+use Rattle.single.proofs.RoundLaws.{whole-of-one, whole-mono}
+use Rattle.single.proofs.SideLaws.{used-of-sides, sides-same}
+use Rattle.single.proofs.CurrentLaws.{product-by-value, negative-refused, zero-refused}
 use Rattle.single.proofs.PartsLaws.{parts-read-single, fields-value}
 
 -- ---- a finite single by its sign and its size: with a minus sign it is refused, whether zero or negative
 
 by-sign : (to : Rounding) (s : Bool) (m : ℕ) (e : ℤ) (scale : ℕ)
-    → currentOf to (fin s m e) scale ≡ cond s Refused (ifAllowed (wholeOf to (m * up e * scale) (down e)))
+    → currentOf to (fin s m e) scale ≡ cond s Refused (ifAllowed to (sidesOf (m * up e * scale) (down e)))
 unfolding currentOf
 by-sign to false m e scale = refl
 by-sign to true zero e scale = zero-refused to true e scale
 by-sign to true (suc m) e scale = negative-refused to (suc m) e scale (zero-lt-suc m)
 
 by-value : (to : Rounding) (x : Float) (s : Bool) (n scale : ℕ) → HasValue x s n (2 ^ 149)
-    → currentOf to x scale ≡ cond s Refused (ifAllowed (wholeOf to (n * scale) (2 ^ 149)))
+    → currentOf to x scale ≡ cond s Refused (ifAllowed to (sidesOf (n * scale) (2 ^ 149)))
 by-value to nan s n scale h = absurd h
 by-value to (inf t) s n scale h = absurd h
 by-value to (fin t m e) s n scale h =
-    let same : wholeOf to (m * up e * scale) (down e) ≡ wholeOf to (n * scale) (2 ^ 149) =
-    whole-same to (m * up e * scale) (down e) (n * scale) (2 ^ 149) (down-pos e) (pow-pos 149)
-    (mul-right-comm (m * up e) scale (2 ^ 149) ∙ ap (λ (k : ℕ). k * scale) (h .1) ∙ mul-right-comm n (down e) scale) in
-    by-sign to t m e scale ∙ (λ i. cond (h .0 i) Refused (ifAllowed (same i)))
+    let same : sidesOf (m * up e * scale) (down e) ≡ sidesOf (n * scale) (2 ^ 149) =
+    sides-same _ (down e) _ (2 ^ 149) (down-pos e) (pow-pos 149) (product-by-value t s m e n (2 ^ 149) scale h) in
+    by-sign to t m e scale ∙ (λ i. cond (h .0 i) Refused (ifAllowed to (same i)))
 
 -- ---- from exponent 154 on
 
-large-refused : (to : Rounding) (n scale : ℕ) → 1 ≤ scale → 2 ^ 27 * 2 ^ 149 ≤ n → ifAllowed (wholeOf to (n * scale) (2 ^ 149)) ≡ Refused
+large-refused : (to : Rounding) (n scale : ℕ) → 1 ≤ scale → 2 ^ 27 * 2 ^ 149 ≤ n → ifAllowed to (sidesOf (n * scale) (2 ^ 149)) ≡ Refused
 large-refused to n scale S h =
-    let k = wholeOf to (n * scale) (2 ^ 149) in
+    let s = sidesOf (n * scale) (2 ^ 149) in
+    let k = used to s in
     let reaches : 2 ^ 27 * 2 ^ 149 ≤ n * scale * 1 = le-trans h (le-trans (le-mul-of-pos-right n S) (le-of-eq (sym (mul-one (n * scale))))) in
-    let over : 2 ^ 27 ≤ k = le-trans (le-of-eq (sym (whole-of-one to (2 ^ 27)))) (whole-mono to (2 ^ 27) 1 _ (2 ^ 149) (pow-pos 0) (pow-pos 149) reaches) in
-    simp (le-leb 1 k (omega arith), lt-leb k 100000000 (omega arith))
+    let more : wholeOf to (2 ^ 27) 1 ≤ wholeOf to (n * scale) (2 ^ 149) = whole-mono to (2 ^ 27) 1 _ (2 ^ 149) (pow-pos 0) (pow-pos 149) reaches in
+    let over : 2 ^ 27 ≤ k = le-trans (le-of-eq (sym (whole-of-one to (2 ^ 27)))) (le-trans more (le-of-eq (sym (used-of-sides to _ (2 ^ 149))))) in
+    λ i. cond (le-leb 1 k (omega arith) i && lt-leb k 100000000 (omega arith) i) (Milliamperes s) Refused
 
 fields-refused : (to : Rounding) (s : Bool) (e t scale : ℕ) → 1 ≤ scale → 154 ≤ e → currentOf to (ofFields binary32 s e t) scale ≡ Refused
 unfolding ofFields currentOf
@@ -71,7 +73,7 @@ module _ (to : Rounding) (x : Float) (scale : ℕ) (p : Parts) (f : T (fits bina
       ap (λ (v : Float). currentOf to v scale) (sym (parts-read-single x p f is)) ∙ fields-refused to (isMinus p) (p .exponent) (p .fraction) scale S h
 
   pub by-parts : (s : Bool) → p .exponent < 154 → isMinus p ≡ s
-      → currentOf to x scale ≡ cond s Refused (ifAllowed (wholeOf to (sizeOf p * scale) (2 ^ 149)))
+      → currentOf to x scale ≡ cond s Refused (ifAllowed to (sidesOf (sizeOf p * scale) (2 ^ 149)))
   by-parts s h e =
       let fields = ofFields binary32 (isMinus p) (p .exponent) (p .fraction) in
       ap (λ (v : Float). currentOf to v scale) (sym (parts-read-single x p f is))

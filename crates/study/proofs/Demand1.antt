@@ -1,64 +1,27 @@
--- DEMAND 1 of a study [01 §4, §5]: what `convertOf` gives is exactly what the sections say. 0 with both currents exactly where the
--- rated currents that are needed fit and both readings give a current; STUDY at place 0, 1 and 2 exactly so, the earlier first;
--- nothing else is given. By cases on the test of the rated currents and on the two currents.
+-- DEMAND 1 of a study [01 §4, §5]: what `convertOf` gives is exactly what the sections say. 0 with both currents, and with the sides of both readings
+-- [02 §9], exactly where the rated currents that are needed fit and both readings give a current; STUDY at place 0, 1 and 2 exactly so, the earlier
+-- first; nothing else is given. By cases on the test of the rated currents and on the two currents. More on the sides: BothSides.antt.
 use Prim.Native.Nat.{ℕ}
 use native.Mathlib.Omega.{arith}
 use mathlib.Core.Path.{_≡_, refl, sym, ap, _∙_, subst}
 use mathlib.Core.Logic.{_↔_}
-use mathlib.Core.Bool.{Bool, true, false, not, _&&_, _||_, cond}
-use lib.Dec.{T, leb, eqb}
-use borrow.Author.Tests.{leb-true, le-leb, eq-eqb}
-use Rattle.fold.proofs.BoolLaws.{and-left, and-right, and-both, fails, not-both, zero-not-one}
-use Rattle.single.specs.SingleCurrent.{allowed, currentOf}
+use mathlib.Core.Bool.{Bool, true, false, not, _&&_, cond}
+use lib.Dec.{T, eqb}
+use borrow.Author.Tests.{eq-eqb}
+use Rattle.fold.proofs.BoolLaws.{and-left, and-right, and-both, fails, not-both}
+use Rattle.single.specs.declared.Sides.{Sides}
 use Rattle.single.specs.declared.Current.{Current}
 use Rattle.single.specs.declared.Current.the-variants.{Milliamperes, Refused}
-use Rattle.single.specs.declared.Rounding.{Rounding}
 use Rattle.single.specs.declared.Rounding.the-variants.{Up, Down}
-use Rattle.single.proofs.CurrentLaws.{current-gives, gives-current}
-use Rattle.study.specs.declared.Quantity.{Quantity}
-use Rattle.study.specs.declared.Quantity.the-variants.{Amperes, Kiloamperes, PerUnit}
-use Rattle.study.specs.declared.Reading.{Reading}
 use Rattle.study.specs.declared.Study.{Study}
 use Rattle.study.specs.declared.Converted.{Converted}
-use Rattle.study.specs.Currents.{singleOf, scaleOf, readingOf, needed, ratedFits, refusedAt, answerOf, convertOf}
-use Rattle.study.specs.Gets.{quantityGives, ReadingGives, ReadingGivesNone, quantityRated, RatedRight, doneWith, studyAt, StudyGets}
+use Rattle.study.specs.Currents.{readingOf, ratedFits, refusedAt, answerOf, convertOf}
+use Rattle.study.specs.Gets.{ReadingGives, ReadingGivesNone, ReadingSides, RatedRight, doneWith, studyAt, StudyGets}
 use Rattle.study.specs.Gets.StudyGets.{both, rated-outside, no-greatest, no-least}
-
--- ---- the test of the rated currents, and what a reading gives
-
-rated-exactly : (q : Quantity) (rated : ℕ) → ((not (needed q) || allowed rated) ≡ true) ↔ quantityRated q rated
-rated-exactly (Amperes x) rated = (λ t. tt, λ h. refl)
-rated-exactly (Kiloamperes x) rated = (λ t. tt, λ h. refl)
-rated-exactly (PerUnit x) rated = (
-  λ t.
-      (leb-true 1 rated (and-left (leb 1 rated) (leb rated 100000000) t), leb-true rated 100000000 (and-right (leb 1 rated) (leb rated 100000000) t)),
-  λ h. and-both (le-leb 1 rated (h .0)) (le-leb rated 100000000 (h .1)),
-)
-
-quantity-exactly :
-    (to : Rounding) (q : Quantity) (rated k : ℕ) → (currentOf to (singleOf q) (scaleOf q rated) ≡ Milliamperes k) ↔ quantityGives to q rated k
-quantity-exactly to (Amperes x) rated k = (current-gives to x 1000 k, gives-current to x 1000 k)
-quantity-exactly to (Kiloamperes x) rated k = (current-gives to x 1000000 k, gives-current to x 1000000 k)
-quantity-exactly to (PerUnit x) rated k = (current-gives to x rated k, gives-current to x rated k)
-
-reading-exactly : (to : Rounding) (r : Reading) (k : ℕ) → (readingOf to r ≡ Milliamperes k) ↔ ReadingGives to r k
-reading-exactly to r k = quantity-exactly to (r .quantity) (r .rated) k
-
-none-refused : (to : Rounding) (r : Reading) → ReadingGivesNone to r → readingOf to r ≡ Refused
-none-refused to r n = by-cases (readingOf to r) refl
-  where
-    by-cases : (c : Current) → readingOf to r ≡ c → readingOf to r ≡ Refused
-    by-cases (Milliamperes k) e = absurd (n k (reading-exactly to r k .0 e))
-    by-cases Refused e = e
-
-refused-none : (to : Rounding) (r : Reading) → readingOf to r ≡ Refused → ReadingGivesNone to r
-refused-none to r e k h = clash (sym e ∙ reading-exactly to r k .1 h)
-  where
-    clash : Refused ≡ Milliamperes k → ⊥
-    clash e = zero-not-one cc
+use Rattle.study.proofs.ReadingLaws.{rated-exactly, reading-gives, gives-reading, reading-used, reading-sides, none-refused, refused-none}
 
 -- done is no STUDY, and no place of it is another
-not-done : {g l place : ℕ} → doneWith g l ≡ studyAt place → ⊥
+not-done : {g l place : ℕ} {gs ls : Sides} → doneWith g l gs ls ≡ studyAt place → ⊥
 not-done e = let d : _≡_ {A = ℕ} 0 8 = ap (λ (r : Converted). r .number) e in omega arith
 
 distinct : (p q : ℕ) → T (not (eqb p q)) → studyAt p ≡ studyAt q → ⊥
@@ -93,11 +56,13 @@ module _ (s : Study) where
       let z : StudyGets s (studyAt 1) = no-greatest (rated-right .0 e) (refused-none Up (s .greatest) eg) in
       z
   gets-by true (Milliamperes g) Refused e eg el =
-      let z : StudyGets s (studyAt 2) = no-least g (rated-right .0 e) (reading-exactly Up (s .greatest) g .0 eg) (refused-none Down (s .least) el) in
+      let z : StudyGets s (studyAt 2) = no-least (g .upper) (rated-right .0 e) (reading-gives Up (s .greatest) g eg .0) (refused-none Down (s .least) el) in
       z
   gets-by true (Milliamperes g) (Milliamperes l) e eg el =
-      let z : StudyGets s (doneWith g l) = both g l (rated-right .0 e) (reading-exactly Up (s .greatest) g .0 eg)
-      (reading-exactly Down (s .least) l .0 el) in
+      let of-greatest = reading-gives Up (s .greatest) g eg in
+      let of-least = reading-gives Down (s .least) l el in
+      let z : StudyGets s (doneWith (g .upper) (l .lower) g l) = both (g .upper) (l .lower) g l (rated-right .0 e)
+      (of-greatest .0) (of-least .0) (of-greatest .1) (of-least .1) in
       z
 
   gets : StudyGets s (convertOf s)
@@ -111,13 +76,16 @@ module _ (s : Study) where
   answer-by b g l e eg el = λ t. cond (e t) (answerOf (eg t) (el t)) (refusedAt 0)
 
   got : {r : Converted} → StudyGets s r → convertOf s ≡ r
-  got (both g l w hg hl) =
-      answer-by true (Milliamperes g) (Milliamperes l) (rated-right .1 w) (reading-exactly Up (s .greatest) g .1 hg)
-      (reading-exactly Down (s .least) l .1 hl)
+  got (both g l gs ls w hg hl hgs hls) =
+      answer-by true (Milliamperes gs) (Milliamperes ls) (rated-right .1 w) (gives-reading Up (s .greatest) g gs hg hgs)
+      (gives-reading Down (s .least) l ls hl hls)
+      ∙ sym (λ i. doneWith (reading-used Up (s .greatest) g gs hg hgs i) (reading-used Down (s .least) l ls hl hls i) gs ls)
   got (rated-outside n) = answer-by false _ _ (fails fits (λ t. n (rated-right .0 t))) refl refl
   got (no-greatest w n) = answer-by true Refused _ (rated-right .1 w) (none-refused Up (s .greatest) n) refl
   got (no-least g w hg n) =
-      answer-by true (Milliamperes g) Refused (rated-right .1 w) (reading-exactly Up (s .greatest) g .1 hg) (none-refused Down (s .least) n)
+      let sided = reading-sides Up (s .greatest) g hg in
+      answer-by true (Milliamperes (sided .0)) Refused (rated-right .1 w) (gives-reading Up (s .greatest) g (sided .0) hg (sided .1))
+      (none-refused Down (s .least) n)
 
   pub study-exactly : (r : Converted) → (convertOf s ≡ r) ↔ StudyGets s r
   study-exactly r = (λ e. subst (StudyGets s) e gets, λ h. got h)
@@ -125,14 +93,23 @@ module _ (s : Study) where
   -- ---- the same, answer by answer
 
   pub done-exactly :
-      (g l : ℕ) → (convertOf s ≡ doneWith g l) ↔ (RatedRight s × ReadingGives Up (s .greatest) g × ReadingGives Down (s .least) l)
-  done-exactly g l = (λ e. of (study-exactly (doneWith g l) .0 e) refl, λ h. got (both g l (h .0) (h .1) (h .2)))
+      (g l : ℕ) (gs ls : Sides) →
+      (convertOf s ≡ doneWith g l gs ls)
+      ↔ (RatedRight s × ReadingGives Up (s .greatest) g × ReadingGives Down (s .least) l × ReadingSides (s .greatest) gs × ReadingSides (s .least) ls)
+  done-exactly g l gs ls = (
+    λ e. of (study-exactly (doneWith g l gs ls) .0 e) refl,
+    λ h. got (both g l gs ls (h .0) (h .1) (h .2) (h .3) (h .4)),
+  )
     where
-      of : {r : Converted} → StudyGets s r → r ≡ doneWith g l → RatedRight s × ReadingGives Up (s .greatest) g × ReadingGives Down (s .least) l
-      of (both g′ l′ w hg hl) e = (
+      of :
+          {r : Converted} → StudyGets s r → r ≡ doneWith g l gs ls →
+          RatedRight s × ReadingGives Up (s .greatest) g × ReadingGives Down (s .least) l × ReadingSides (s .greatest) gs × ReadingSides (s .least) ls
+      of (both g′ l′ gs′ ls′ w hg hl hgs hls) e = (
         w,
         subst (ReadingGives Up (s .greatest)) (ap (λ (r : Converted). r .greatest) e) hg,
         subst (ReadingGives Down (s .least)) (ap (λ (r : Converted). r .least) e) hl,
+        subst (ReadingSides (s .greatest)) (ap (λ (r : Converted). r .sides .greatest) e) hgs,
+        subst (ReadingSides (s .least)) (ap (λ (r : Converted). r .sides .least) e) hls,
       )
       of (rated-outside n) e = absurd (not-done (sym e))
       of (no-greatest w n) e = absurd (not-done (sym e))
@@ -142,7 +119,7 @@ module _ (s : Study) where
   place-0-exactly = (λ e. of (study-exactly (studyAt 0) .0 e) refl, λ n. got (rated-outside n))
     where
       of : {r : Converted} → StudyGets s r → r ≡ studyAt 0 → RatedRight s → ⊥
-      of (both g l w hg hl) e = absurd (not-done e)
+      of (both g l gs ls w hg hl hgs hls) e = absurd (not-done e)
       of (rated-outside n) e = n
       of (no-greatest w n) e = absurd (distinct 1 0 tt e)
       of (no-least g w hg n) e = absurd (distinct 2 0 tt e)
@@ -151,7 +128,7 @@ module _ (s : Study) where
   place-1-exactly = (λ e. of (study-exactly (studyAt 1) .0 e) refl, λ h. got (no-greatest (h .0) (h .1)))
     where
       of : {r : Converted} → StudyGets s r → r ≡ studyAt 1 → RatedRight s × ReadingGivesNone Up (s .greatest)
-      of (both g l w hg hl) e = absurd (not-done e)
+      of (both g l gs ls w hg hl hgs hls) e = absurd (not-done e)
       of (rated-outside n) e = absurd (distinct 0 1 tt e)
       of (no-greatest w n) e = (w, n)
       of (no-least g w hg n) e = absurd (distinct 2 1 tt e)
@@ -163,7 +140,7 @@ module _ (s : Study) where
       of :
           {r : Converted} → StudyGets s r → r ≡ studyAt 2 →
           RatedRight s × ((g : ℕ) × ReadingGives Up (s .greatest) g) × ReadingGivesNone Down (s .least)
-      of (both g l w hg hl) e = absurd (not-done e)
+      of (both g l gs ls w hg hl hgs hls) e = absurd (not-done e)
       of (rated-outside n) e = absurd (distinct 0 2 tt e)
       of (no-greatest w n) e = absurd (distinct 1 2 tt e)
       of (no-least g w hg n) e = (w, (g, hg), n)

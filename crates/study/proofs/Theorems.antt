@@ -1,5 +1,6 @@
 -- The public theorems on the study's currents [01 §5] and on the parts of a single [02 §4], over the definitions that `convert`, and `parts_of` of
--- `single`, are proved against. Each is proved by citing laws, or by computing. What a whole study gets, exactly when: Demand1.antt.
+-- `single`, are proved against. Each is proved by citing laws, or by computing. What a whole study gets, exactly when: Demand1.antt. On both sides of a
+-- reading [02 §9]: BothSides.antt.
 use Prim.Native.Nat.{ℕ, suc, _*_, _^_, _≤_, _<_}
 use native.Mathlib.Nat.{mul-one}
 use mathlib.Core.Path.{_≡_, refl, sym, ap, _∙_, subst}
@@ -12,10 +13,11 @@ use lib.Ieee.Bits.{ofBits-toBits, toBits-lt, nanBits-is}
 use lib.Ieee.Exact.{HasValue}
 use Rattle.single.specs.declared.Rounding.{Rounding}
 use Rattle.single.specs.declared.Rounding.the-variants.{Up, Down}
+use Rattle.single.specs.declared.Sides.{Sides}
 use Rattle.single.specs.declared.Current.the-variants.{Milliamperes, Refused}
-use Rattle.single.specs.Exact.{wholeOf, Rounds}
+use Rattle.single.specs.Exact.{wholeOf, used, HasSides}
 use Rattle.single.specs.Parts.{partsOf, bitsOf, isMinus, sizeOf}
-use Rattle.single.specs.SingleCurrent.{currentOf, Gives}
+use Rattle.single.specs.SingleCurrent.{currentOf, Gives, SidesAt}
 use Rattle.study.specs.Currents.{convertOf}
 use Rattle.study.specs.Cases.{Case, table}
 use Rattle.single.proofs.PartsLaws as parts
@@ -59,24 +61,29 @@ ceiling-at-least = round.ceiling-at-least
 pub ceiling-least : (n d j : ℕ) → 0 < d → n ≤ j * d → wholeOf Up n d ≤ j
 ceiling-least = round.ceiling-least
 
--- ---- a single gives k mA exactly where it is finite, not negative, and k is its exact product rounded and from 1 to 100,000,000
+-- ---- a single gives sides exactly where it is finite, not negative, and the side that is used is from 1 to 100,000,000: those of its exact product
 
-pub given-sound : (to : Rounding) (x : Float) (scale k : ℕ) → currentOf to x scale ≡ Milliamperes k → Gives to x scale k
+pub given-sound : (to : Rounding) (x : Float) (scale : ℕ) (s : Sides) → currentOf to x scale ≡ Milliamperes s
+    → Gives to x scale (used to s) × SidesAt x scale s
 given-sound = current.current-gives
 
-pub given-complete : (to : Rounding) (x : Float) (scale k : ℕ) → Gives to x scale k → currentOf to x scale ≡ Milliamperes k
+pub given-complete :
+    (to : Rounding) (x : Float) (scale k : ℕ) (s : Sides) → Gives to x scale k → SidesAt x scale s → currentOf to x scale ≡ Milliamperes s
 given-complete = current.gives-current
 
 -- In powers of two: m * 2 ^ -(t + 1) times the scale is the fraction m * scale / 2 ^ (t + 1), which is rounded; m * 2 ^ t times the scale is a whole
 -- number, which is kept.
 pub fraction-rounded :
-    (to : Rounding) (m t scale k : ℕ) → currentOf to (fin false m (negsuc t)) scale ≡ Milliamperes k → Rounds to (m * scale) (2 ^ suc t) k
-fraction-rounded to m t scale k h = subst (λ (n : ℕ). Rounds to (n * scale) (2 ^ suc t) k) (mul-one m) (given-sound to (fin false m (negsuc t)) scale k h .1)
+    (to : Rounding) (m t scale : ℕ) (s : Sides) → currentOf to (fin false m (negsuc t)) scale ≡ Milliamperes s → HasSides (m * scale) (2 ^ suc t) s
+fraction-rounded to m t scale s h =
+    subst (λ (n : ℕ). HasSides (n * scale) (2 ^ suc t) s) (mul-one m) (given-sound to (fin false m (negsuc t)) scale s h .1 .1)
 
-pub whole-number-kept : (to : Rounding) (m t scale k : ℕ) → currentOf to (fin false m (pos t)) scale ≡ Milliamperes k → k ≡ m * 2 ^ t * scale
-whole-number-kept to m t scale k h =
-    round.rounds-unique to (m * 2 ^ t * scale) 1 k (m * 2 ^ t * scale)
-    (given-sound to (fin false m (pos t)) scale k h .1) (round.whole-number to (m * 2 ^ t * scale))
+pub whole-number-kept : (to : Rounding) (m t scale : ℕ) (s : Sides) → currentOf to (fin false m (pos t)) scale ≡ Milliamperes s
+    → (s .lower ≡ m * 2 ^ t * scale) × (s .upper ≡ m * 2 ^ t * scale)
+whole-number-kept to m t scale s h =
+    let n = m * 2 ^ t * scale in
+    let sides = given-sound to (fin false m (pos t)) scale s h .1 .1 in
+    (round.rounds-unique Down n 1 _ n (sides .lower) (round.whole-number Down n), round.rounds-unique Up n 1 _ n (sides .upper) (round.whole-number Up n))
 
 -- ---- refused at any scale and in either direction: every NaN pattern, both infinities, negative numbers, both zeros
 

@@ -1,4 +1,4 @@
--- The study's currents [01 §5], and what is given back for them [01 §4]: DONE or STUDY.
+-- The study's currents [01 §5] with their sides [02 §9], and what is given back for them [01 §4]: DONE or STUDY.
 -- `cond b x y` is x where b is true and y where it is false. Definitions only.
 use Prim.Native.Nat.{ℕ}
 use mathlib.Core.Bool.{Bool, true, false, not, _&&_, _||_, cond}
@@ -6,9 +6,11 @@ use lib.Ieee.{Float}
 use Rattle.answers.specs.declared.Answer.{Answer}
 use Rattle.answers.specs.declared.Answer.the-variants as answer
 use Rattle.answers.specs.Answer.{numberOf, placeOf}
+use Rattle.single.specs.Exact.{used}
 use Rattle.single.specs.SingleCurrent.{allowed, currentOf}
 use Rattle.single.specs.declared.Rounding.{Rounding}
 use Rattle.single.specs.declared.Rounding.the-variants.{Up, Down}
+use Rattle.single.specs.declared.Sides.{Sides}
 use Rattle.study.specs.declared.Quantity.{Quantity}
 use Rattle.study.specs.declared.Quantity.the-variants.{Amperes, Kiloamperes, PerUnit}
 use Rattle.study.specs.declared.Reading.{Reading}
@@ -40,13 +42,17 @@ needed (PerUnit x) = true
 abbrev pub ratedFits : Reading → Bool
 ratedFits r = not (needed (r .quantity)) || allowed (r .rated)
 
--- an answer's number and place, with both currents
-abbrev pub given : Answer → ℕ → ℕ → Converted
-given a g l = record { number = numberOf a; place = placeOf a; greatest = g; least = l }
+-- an answer's number and place, with both currents and the sides of both readings
+abbrev pub given : Answer → Sides → Sides → Converted
+given a g l =
+    record { number = numberOf a; place = placeOf a; greatest = used Up g; least = used Down l; sides = record { greatest = g; least = l } }
 
--- STUDY at a place
+abbrev pub zeroSides : Sides
+zeroSides = record { lower = 0; upper = 0 }
+
+-- STUDY at a place: both currents and all sides are 0
 abbrev pub refusedAt : ℕ → Converted
-refusedAt place = given (answer.Study place) 0 0
+refusedAt place = given (answer.Study place) zeroSides zeroSides
 
 -- what is given for the two currents
 abbrev pub answerOf : Current → Current → Converted

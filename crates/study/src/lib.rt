@@ -1,4 +1,4 @@
-// Currents from the study package [01 §5]: two readings, each a single, turned into whole milliamperes (mA).
+// Currents from the study package [01 §5]: two readings, each a single, turned into whole milliamperes (mA), with both sides of each [02 §9].
 
 ghost use mathlib.Core.Path.{_≡_};
 ghost use lib.Dec.{T};
@@ -7,7 +7,9 @@ use answers::Answer;
 use answers::numbers;
 use single::Current;
 use single::Rounding;
+use single::Sides;
 use single::allowed_current;
+use single::used;
 use single::whole_current;
 
 // A single in its unit.
@@ -28,15 +30,23 @@ pub struct Study {
     pub least: Reading,
 }
 
-// The numbers given back [01 §4]: DONE with both currents in mA, or STUDY with its place and both currents 0.
+// The sides of both readings, in mA. Of a study that is done, the greatest's upper and the least's lower one are from 1 to 100,000,000; the greatest's
+// lower one may be 0, and the least's upper one 100,000,001.
+pub struct StudySides {
+    pub greatest: Sides,
+    pub least: Sides,
+}
+
+// The numbers given back [01 §4]: DONE with both currents in mA and the sides of both readings, or STUDY with its place and all of them 0.
 pub struct Converted {
     pub number: u64,
     pub place: u64,
     pub greatest: u64,
     pub least: u64,
+    pub sides: StudySides,
 }
 
-// A reading in whole mA. The caller has tested the rated current.
+// A reading in whole mA, by its sides. The caller has tested the rated current.
 fn reading_current(reading: Reading, to: Rounding) -> Current
     requires { ⌜ T (ratedFits reading) ⌝ }
     ensures { λ r. ⌜ r ≡ readingOf to reading ⌝ }
@@ -63,16 +73,17 @@ fn rated_fits(reading: Reading) -> bool
     }
 }
 
-// An answer's number and place, with both currents.
-fn given(a: Answer, greatest: u64, least: u64) -> Converted
+// An answer's number and place, with both currents, the greatest rounded up and the least down, and the sides of both readings.
+fn given(a: Answer, greatest: Sides, least: Sides) -> Converted
     ensures { λ r. ⌜ r ≡ given a greatest least ⌝ }
 {
     let n = numbers(a);
     Converted {
         number: n[0],
         place: n[1],
-        greatest,
-        least,
+        greatest: used(greatest, Rounding::Up),
+        least: used(least, Rounding::Down),
+        sides: StudySides { greatest, least },
     }
 }
 
@@ -80,7 +91,8 @@ fn given(a: Answer, greatest: u64, least: u64) -> Converted
 pub fn refused(place: u64) -> Converted
     ensures { λ r. ⌜ r ≡ refusedAt place ⌝ }
 {
-    given(Answer::Study(place), 0, 0)
+    let zero = Sides { lower: 0, upper: 0 };
+    given(Answer::Study(place), zero, zero)
 }
 
 // What is given back for the two currents: a refused greatest comes before a refused least.
@@ -96,7 +108,8 @@ fn answer(greatest: Current, least: Current) -> Converted
     given(Answer::Done, g, l)
 }
 
-// The two currents of a study, the greatest rounded up and the least down. The rated currents are tested before either reading.
+// The two currents of a study, the greatest rounded up and the least down, with both sides of each reading [02 §9]. A reading is refused by the side
+// that is used; the rated currents are tested before either reading.
 pub fn convert(s: Study) -> Converted
     ensures { λ r. ⌜ r ≡ convertOf s ⌝ }
 {

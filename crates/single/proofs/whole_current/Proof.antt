@@ -1,5 +1,5 @@
--- `single::whole_current` meets its contract: from exponent 154 on section 5 refuses too (`exponent-refused`), and below, a minus is refused and the mA
--- of any other single are those of its size times the scale (`by-parts`).
+-- `single::whole_current` meets its contract: from exponent 154 on section 5 refuses too (`exponent-refused`), and below, a minus is refused and the
+-- sides of any other single are those of its size times the scale (`by-parts`).
 use Prim.Native.Nat.{ℕ, _^_}
 use native.Mathlib.Omega.{arith}
 use mathlib.Core.Path.{_≡_, sym, ap, _∙_}
@@ -11,8 +11,8 @@ use borrow.Author.Needs.{needs}
 use borrow.Author.Tests.{eq-eqb, ne-eqb}
 use Rattle.single.specs.declared.Current.the-variants.{Milliamperes, Refused}
 use Rattle.single.specs.declared.Parts.{Parts}
-use Rattle.single.specs.Exact.{wholeOf}
-use Rattle.single.specs.SingleCurrent.{ifAllowed, currentOf}
+use Rattle.single.specs.Exact.{sidesOf}
+use Rattle.single.specs.SingleCurrent.{allowed, ifAllowed, currentOf}
 use Rattle.single.proofs.CurrentLaws.{allowed-low, allowed-high}
 use Rattle.single.proofs.ScreenLaws.{exponent-refused, by-parts}
 use Rattle.single.proofs.whole_current.Statement.{statement}
@@ -40,9 +40,9 @@ returns-2 c =
 abbrev parts : tie.Else2 → tie.After-parts-of
 parts c = c .before .before .before .before
 
--- from where the whole number is tested back to past the two refusals
+-- from where the side that is used is tested back to past the two refusals
 abbrev kept : tie.After-allowed-current → tie.Else2
-kept c = c .before .before .before
+kept c = c .before .before .before .before
 
 scaled-requires : tie.Need-scaled-requires
 scaled-requires c κs =
@@ -56,20 +56,26 @@ scaled-requires c κs =
 rounded-requires : tie.Need-rounded-requires
 rounded-requires c κs = search needs
 
+used-requires : tie.Need-used-requires
+used-requires c κs = search needs
+
 allowed-current-requires : tie.Need-allowed-current-requires
 allowed-current-requires c κs = search needs
 
--- what was rounded is what section 5 rounds, and it is given where it is allowed
+-- the sides are those of section 5's product, and they are given where the one that is used is allowed
 answered : (c : tie.After-allowed-current) (b : Bool) → c .allowed-current .result ≡ b →
     let a = parts (kept c) .before .args in
-    cond b (Milliamperes (c .before .rounded .result)) Refused ≡ currentOf (a .to) (a .x) (a .scale)
+    cond b (Milliamperes (c .before .before .rounded .result)) Refused ≡ currentOf (a .to) (a .x) (a .scale)
 answered c b e =
     let apart = parts (kept c) in
-    let k = c .before .rounded in
+    let to = apart .before .args .to in
+    let sides = c .before .before .rounded in
+    let exact = sides .ensures ∙ ap (λ (n : ℕ). sidesOf n (2 ^ 149)) (c .before .before .before .scaled .ensures .exact) in
+    let tested = sym e ∙ c .allowed-current .ensures ∙ ap allowed (c .before .used .ensures) in
     sym
     (by-parts _ _ _ _ (held (apart .before)) (apart .parts-of .ensures) false (kept c .before .before .if1 .left) (ne-eqb _ 1 (kept c .if2 .left))
-    ∙ ap ifAllowed (sym (k .ensures ∙ ap (λ (n : ℕ). wholeOf (apart .before .args .to) n (2 ^ 149)) (c .before .before .scaled .ensures .exact)))
-    ∙ ap (λ (t : Bool). cond t (Milliamperes (k .result)) Refused) (sym (c .allowed-current .ensures) ∙ e))
+    ∙ ap (ifAllowed to) (sym exact)
+    ∙ ap (λ (t : Bool). cond t (Milliamperes (sides .result)) Refused) (sym tested))
 
 returns-3 : tie.Need-returns-3
 returns-3 c = answered (c .before) true (c .if3 .taken)
@@ -86,6 +92,7 @@ whole-current-spec =
     returns-2
     scaled-requires
     rounded-requires
+    used-requires
     allowed-current-requires
     returns-3
     returns-4)

@@ -1,8 +1,8 @@
 -- `study::answer` meets its contract: each return is the case that `answerOf` has for the two currents.
-use Prim.Native.Nat.{ℕ}
 use mathlib.Core.Path.{_≡_}
 use borrow.Author.Needs.{needs}
 use Rattle.answers.specs.declared.Answer.the-variants.{Done}
+use Rattle.single.specs.declared.Sides.{Sides}
 use Rattle.single.specs.declared.Current.{Current}
 use Rattle.single.specs.declared.Current.the-variants.{Milliamperes, Refused}
 use Rattle.study.specs.declared.Converted.{Converted}
@@ -13,10 +13,11 @@ use Rattle.study.proofs.answer.Tie as tie
 greatest-refused : {r : Converted} {g : Current} (l : Current) → g ≡ Refused → r ≡ refusedAt 1 → r ≡ answerOf g l
 greatest-refused l e h = rw e h
 
-least-refused : {r : Converted} {g l : Current} {k : ℕ} → g ≡ Milliamperes k → l ≡ Refused → r ≡ refusedAt 2 → r ≡ answerOf g l
+least-refused : {r : Converted} {g l : Current} {gs : Sides} → g ≡ Milliamperes gs → l ≡ Refused → r ≡ refusedAt 2 → r ≡ answerOf g l
 least-refused e f h = rw (e, f) h
 
-both-given : {r : Converted} {g l : Current} {j k : ℕ} → g ≡ Milliamperes j → l ≡ Milliamperes k → r ≡ given Done j k → r ≡ answerOf g l
+both-given :
+    {r : Converted} {g l : Current} {gs ls : Sides} → g ≡ Milliamperes gs → l ≡ Milliamperes ls → r ≡ given Done gs ls → r ≡ answerOf g l
 both-given e f h = rw (e, f) h
 
 enum-known-greatest : tie.Need-enum-known-greatest
