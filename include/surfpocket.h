@@ -30,8 +30,9 @@ extern "C" {
 #endif
 
 /* Grows with every change of a number or a struct of this header. A caller built with another header than the library's would be
-   misread in silence: where that can happen, as with a shared object, compare the two first, and stop if they differ. */
-#define SURFPOCKET_VERSION 2
+   misread in silence, or its struct written past its end: where that can happen, as with a shared object, compare the two first,
+   and stop if they differ. */
+#define SURFPOCKET_VERSION 3
 uint64_t surfpocket_version(void);
 
 /* Sizes. The first two grow in later versions, so use their names.
@@ -73,12 +74,18 @@ typedef struct {
     uint64_t field;
 } SurfpocketAnswer;
 
-/* Number, place (0 the rated current or the unit, 1 the greatest reading, 2 the least) and both currents in mA. */
+/* Number, place (0 the rated current or the unit, 1 the greatest reading, 2 the least), both currents in mA, and both sides of each
+   reading: lower, the largest whole number of mA not above it, and upper, the smallest not below it. On DONE the two are equal
+   exactly where the reading is a whole number of mA; on STUDY both currents and all sides are 0. */
 typedef struct {
     uint64_t number;
     uint64_t place;
     uint64_t greatest;
     uint64_t least;
+    uint64_t greatest_lower;
+    uint64_t greatest_upper;
+    uint64_t least_lower;
+    uint64_t least_upper;
 } SurfpocketStudy;
 
 /* As SurfpocketAnswer, for TEXT with the line as its place, and how many bytes were written. */
@@ -110,9 +117,13 @@ SurfpocketAnswer surfpocket_whole(const uint64_t *list, size_t list_length, uint
 SurfpocketAnswer surfpocket_replace(uint64_t *list, size_t list_length, uint64_t *card, size_t card_length, uint64_t place,
                                     const uint64_t *row, size_t row_length);
 
-/* The currents of a study in whole mA: gives DONE with the greatest rounded up and the least rounded down, or STUDY with both 0.
+/* The currents of a study in whole mA: gives DONE with the greatest (for `clear`, field 9) rounded up, the least (for `far`, field
+   8) rounded down, and both sides of each reading, or STUDY with all six 0. `greatest` always equals `greatest_upper`, and `least`
+   always equals `least_lower`. On DONE both are from 1 to 100,000,000; `greatest_lower` is the same as `greatest` or 1 less, so
+   perhaps 0, and `least_upper` is the same as `least` or 1 more, so perhaps 100,000,001.
    A rated current, in mA, counts per unit only. Order: place 0 for a unit that is none of the three, or a needed rated current
-   outside 1 to 100,000,000; then 1 and 2 for a reading that is not a number, infinite, negative, or not 1 to 100,000,000 mA.
+   outside 1 to 100,000,000; then 1 for a greatest and 2 for a least reading that is not a number, infinite, negative, or, rounded
+   so, outside 1 to 100,000,000 mA.
    A reading that is not a number may raise the floating-point flag FE_INVALID, as a signalling one does; no other flag is raised.
    A caller that has made that flag a trap screens its readings first. */
 SurfpocketStudy surfpocket_study(uint64_t greatest_unit, float greatest, uint64_t greatest_rated,

@@ -30,6 +30,10 @@ pub struct SurfpocketStudy {
     pub place: u64,
     pub greatest: u64,
     pub least: u64,
+    pub greatest_lower: u64,
+    pub greatest_upper: u64,
+    pub least_lower: u64,
+    pub least_upper: u64,
 }
 
 #[repr(C)]
@@ -39,7 +43,7 @@ pub struct SurfpocketPrinted {
 }
 
 // It grows with every change of what is lent or given.
-const VERSION: u64 = 2;
+const VERSION: u64 = 3;
 
 #[no_mangle]
 pub extern "C" fn surfpocket_version() -> u64
@@ -98,10 +102,14 @@ fn hand_on(c: Converted) -> SurfpocketStudy
         place: c.place,
         greatest: c.greatest,
         least: c.least,
+        greatest_lower: c.sides.greatest.lower,
+        greatest_upper: c.sides.greatest.upper,
+        least_lower: c.sides.least.lower,
+        least_upper: c.sides.least.upper,
     }
 }
 
-// The study's currents [01 §5]: each reading by its unit's number, its single and the rated mA beside it.
+// The study's currents [01 §5] with the sides of both readings [02 §9]: each reading by its unit's number, its single and the rated mA beside it.
 #[no_mangle]
 pub extern "C" fn surfpocket_study(
     greatest_unit: u64,
