@@ -1,7 +1,7 @@
 //! Safe functions over the C boundary, as include/surfpocket.h declares it.
 
 use second::answer::Answer;
-use second::study::StudyAnswer;
+use second::study::{Current, StudyAnswer};
 use std::ptr;
 
 #[repr(C)]
@@ -17,6 +17,10 @@ struct SurfpocketStudy {
     place: u64,
     greatest: u64,
     least: u64,
+    greatest_lower: u64,
+    greatest_upper: u64,
+    least_lower: u64,
+    least_upper: u64,
 }
 
 #[repr(C)]
@@ -110,6 +114,9 @@ pub const AMPERES: u64 = 1;
 pub const KILOAMPERES: u64 = 2;
 pub const PER_UNIT: u64 = 3;
 
+/// 500 mA, to stand beside a reading that is tried.
+pub const HALF: Reading = Reading { unit: AMPERES, bits: 0x3f00_0000, rated: 0 };
+
 pub fn study(greatest: Reading, least: Reading) -> StudyAnswer {
     // SAFETY: numbers only.
     let given = unsafe {
@@ -125,8 +132,12 @@ pub fn study(greatest: Reading, least: Reading) -> StudyAnswer {
     StudyAnswer {
         number: given.number,
         place: given.place,
-        greatest: given.greatest,
-        least: given.least,
+        greatest: Current {
+            used: given.greatest,
+            lower: given.greatest_lower,
+            upper: given.greatest_upper,
+        },
+        least: Current { used: given.least, lower: given.least_lower, upper: given.least_upper },
     }
 }
 

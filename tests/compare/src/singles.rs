@@ -1,14 +1,14 @@
 //! Patterns of a single, all or every so many, at several scales and both ways,
-//! against doubles.
+//! with both sides, against doubles.
 //!
 //! A double holds each product exactly: a single has 24 significant bits and a
 //! scale is below 2^27, so the product has at most 51 of a double's 53, and its
 //! size stays between 2^-149 and 2^155. Cutting off its fraction is exact too.
 
-use crate::boundary::{study, Reading, AMPERES, KILOAMPERES, PER_UNIT};
+use crate::boundary::{study, Reading, AMPERES, HALF, KILOAMPERES, PER_UNIT};
 use crate::run::in_threads;
-use second::answer::{DONE, STUDY};
 use second::row::MOST_CURRENT;
+use second::study::{Current, StudyAnswer};
 use std::sync::atomic::{AtomicU64, Ordering};
 
 /// Unit and rated mA.
@@ -22,7 +22,7 @@ pub const SCALES: [(u64, u64); 7] = [
     (PER_UNIT, MOST_CURRENT),
 ];
 
-const HALF: Reading = Reading { unit: AMPERES, bits: 0x3f00_0000, rated: 0 };
+const OF_HALF: Current = Current { used: 500, lower: 500, upper: 500 };
 const BLOCK: u64 = 1 << 24;
 const PATTERNS: u64 = 1 << 32;
 
@@ -87,10 +87,12 @@ fn compare_single(reading: Reading) -> Result<(), String> {
     // The conversion to a whole number cuts off, and stops at the ends of its range.
     let down = exact as u64;
     let up = down.saturating_add(u64::from((down as f64) < exact));
-    let of_up = if allowed(up) { (DONE, 0, up, 500) } else { (STUDY, 1, 0, 0) };
-    let of_down = if allowed(down) { (DONE, 0, 500, down) } else { (STUDY, 2, 0, 0) };
+    let current = |used| Current { used, lower: down, upper: up };
+    let (done, refused) = (StudyAnswer::done, StudyAnswer::refused);
+    let of_up = if allowed(up) { done(current(up), OF_HALF) } else { refused(1) };
+    let of_down = if allowed(down) { done(OF_HALF, current(down)) } else { refused(2) };
     for (given, wanted) in [(study(reading, HALF), of_up), (study(HALF, reading), of_down)] {
-        if (given.number, given.place, given.greatest, given.least) != wanted {
+        if given != wanted {
             return Err(format!("{given:?}, not {wanted:?}: {reading:x?}"));
         }
     }

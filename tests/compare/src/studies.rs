@@ -1,11 +1,11 @@
-//! Currents from the study package [01 §5].
+//! Currents from the study package [01 §5, 02 §9].
 
-use crate::boundary::{self, Reading, AMPERES, KILOAMPERES, PER_UNIT};
-use crate::run::{Found, Group, Item, Kind, Seen};
+use crate::boundary::{self, Reading, AMPERES, HALF, KILOAMPERES, PER_UNIT};
+use crate::run::{Found, Group, Kind, Seen};
 use second::answer::{DONE, STUDY};
 use second::generate::Rng;
 use second::row::MOST_CURRENT;
-use second::study::{self, StudyAnswer, Unit};
+use second::study::{self, Current, StudyAnswer, Unit};
 
 pub const PLACES: Group = Group {
     name: "studies by number and place",
@@ -27,18 +27,38 @@ pub const UNITS: Group = Group {
     label: |item| ["none", "amperes", "kiloamperes", "per unit"][item.0 as usize].to_string(),
 };
 
-pub const GROUPS: [Group; 3] = [PLACES, PAIRS, UNITS];
+/// Upper side less lower, of both readings of a study.
+pub const APART: Group = Group {
+    name: "sides apart, of the greatest and of the least",
+    wanted: || vec![(0, 0), (0, 1), (1, 0), (1, 1)],
+    label: |item| format!("{} and {}:", item.0, item.1),
+};
 
-pub const KINDS: [Kind; 6] = [
+/// A current used that is 1 or 100,000,000, and the side that is not used.
+pub const GREATEST_ENDS: Group = Group {
+    name: "the greatest at its ends",
+    wanted: || vec![(1, 0), (1, 1), (MOST_CURRENT, MOST_CURRENT - 1), (MOST_CURRENT, MOST_CURRENT)],
+    label: |item| format!("{} with lower {}:", item.0, item.1),
+};
+
+pub const LEAST_ENDS: Group = Group {
+    name: "the least at its ends",
+    wanted: || vec![(1, 1), (1, 2), (MOST_CURRENT, MOST_CURRENT), (MOST_CURRENT, MOST_CURRENT + 1)],
+    label: |item| format!("{} with upper {}:", item.0, item.1),
+};
+
+pub const GROUPS: [Group; 6] = [PLACES, PAIRS, UNITS, APART, GREATEST_ENDS, LEAST_ENDS];
+
+pub const KINDS: [Kind; 7] = [
     Kind { name: "documented studies", cases: 1, case: documented },
     Kind { name: "every exponent and sign", cases: 512, case: exponent },
     Kind { name: "not a number", cases: 20_000, case: not_a_number },
     Kind { name: "singles about whole mA", cases: 100_000, case: about_whole },
+    Kind { name: "readings about the ends", cases: 20_000, case: about_ends },
     Kind { name: "any studies", cases: 1_000_000, case: any_study },
     Kind { name: "units that there are not", cases: 20_000, case: no_unit },
 ];
 
-const HALF: Reading = Reading { unit: AMPERES, bits: 0x3f00_0000, rated: 0 };
 const RATED: [u64; 9] = [1, 2, 3, 999, 1_000, 1_001, 16_777_217, MOST_CURRENT - 1, MOST_CURRENT];
 const BAD_RATED: [u64; 4] = [0, MOST_CURRENT + 1, 1 << 32, u64::MAX];
 
@@ -55,7 +75,7 @@ fn expected(greatest: Reading, least: Reading) -> StudyAnswer {
     };
     match (read(greatest), read(least)) {
         (Some(greatest), Some(least)) => study::study(greatest, least),
-        _ => StudyAnswer { number: STUDY, place: 0, greatest: 0, least: 0 },
+        _ => StudyAnswer::refused(0),
     }
 }
 
@@ -72,8 +92,22 @@ fn same(greatest: Reading, least: Reading, seen: &mut Seen) -> Result<StudyAnswe
             seen.note(&UNITS, (if known { unit } else { 0 }, 0));
         }
     }
-    seen.accepted += u64::from(answer.number == DONE);
+    if answer.number == DONE {
+        seen.accepted += 1;
+        note_sides(answer.greatest, answer.least, seen);
+    }
     Ok(answer)
+}
+
+fn note_sides(greatest: Current, least: Current, seen: &mut Seen) {
+    seen.note(&APART, (greatest.upper - greatest.lower, least.upper - least.lower));
+    for (group, used, other) in
+        [(&GREATEST_ENDS, greatest.used, greatest.lower), (&LEAST_ENDS, least.used, least.upper)]
+    {
+        if [1, MOST_CURRENT].contains(&used) {
+            seen.note(group, (used, other));
+        }
+    }
 }
 
 /// As the greatest, as the least, and as both.
@@ -83,23 +117,28 @@ fn both_ways(reading: Reading, seen: &mut Seen) -> Found {
     same(reading, reading, seen).map(|_| ())
 }
 
-/// The examples of section 5, by the document's own numbers.
+/// The examples of section 5, by the document's own numbers, and an upper side above the
+/// range. Of each reading: the mA used, its lower side, its upper side.
 fn documented(_: u64, _: u64, seen: &mut Seen) -> Found {
     let ka = |x: f32| Reading { unit: KILOAMPERES, bits: x.to_bits(), rated: 0 };
     let smallest = Reading { bits: 1, ..HALF };
-    let cases: [(Reading, Reading, Item, Item); 6] = [
-        (HALF, HALF, (DONE, 0), (500, 500)),
-        (ka(100.0), ka(100.0), (DONE, 0), (100_000_000, 100_000_000)),
-        (ka(100.0_f32.next_up()), HALF, (STUDY, 1), (0, 0)),
-        (ka(0.1), ka(0.1), (DONE, 0), (100_001, 100_000)),
-        (smallest, HALF, (DONE, 0), (1, 500)),
-        (HALF, smallest, (STUDY, 2), (0, 0)),
+    let above = Reading { unit: PER_UNIT, bits: 1.5_f32.to_bits(), rated: 66_666_667 };
+    let current = |[used, lower, upper]: [u64; 3]| Current { used, lower, upper };
+    let done = |greatest, least| StudyAnswer::done(current(greatest), current(least));
+    let cases = [
+        (HALF, HALF, done([500; 3], [500; 3])),
+        (ka(100.0), ka(100.0), done([100_000_000; 3], [100_000_000; 3])),
+        (ka(100.0_f32.next_up()), HALF, StudyAnswer::refused(1)),
+        (ka(0.1), ka(0.1), done([100_001, 100_000, 100_001], [100_000, 100_000, 100_001])),
+        (smallest, HALF, done([1, 0, 1], [500; 3])),
+        (HALF, smallest, StudyAnswer::refused(2)),
+        (HALF, above, done([500; 3], [100_000_000, 100_000_000, 100_000_001])),
+        (above, HALF, StudyAnswer::refused(1)),
     ];
-    for (greatest, least, given, currents) in cases {
+    for (greatest, least, documented) in cases {
         let answer = same(greatest, least, seen)?;
-        let found = ((answer.number, answer.place), (answer.greatest, answer.least));
-        if found != (given, currents) {
-            return Err(format!("{found:?}, not {given:?} {currents:?}"));
+        if answer != documented {
+            return Err(format!("{answer:?}, not {documented:?}"));
         }
     }
     Ok(())
@@ -154,6 +193,26 @@ fn about_whole(_: u64, seed: u64, seen: &mut Seen) -> Found {
     let beside =
         (nearest.saturating_sub(2)..=nearest + 2).map(|bits| Reading { unit, bits, rated });
     beside.into_iter().try_for_each(|reading| both_ways(reading, seen))
+}
+
+/// x per unit of a rated current that brings it to 1 or 100,000,000 mA, or within x mA of
+/// that. x has few bits; it is below 1 for the lower end, from 1 to below 2 for the upper.
+/// Per unit, since in amperes and kiloamperes no other single is within 7 mA of the upper.
+fn end_reading(rng: &mut Rng) -> Reading {
+    let places = rng.below(7);
+    let significand = rng.between(1 << places, (2 << places) - 1);
+    let (end, halved) = if rng.chance(50) { (1, rng.between(1, 26)) } else { (MOST_CURRENT, 0) };
+    let denominator = 1 << (places + halved);
+    let bits = (significand as f32 / denominator as f32).to_bits();
+    Reading { unit: PER_UNIT, bits, rated: end * denominator / significand + rng.below(2) }
+}
+
+/// At an end, as the greatest, the least and both, and beside another.
+fn about_ends(_: u64, seed: u64, seen: &mut Seen) -> Found {
+    let mut rng = Rng::new(seed);
+    let (reading, other) = (end_reading(&mut rng), end_reading(&mut rng));
+    both_ways(reading, seen)?;
+    same(reading, other, seen).map(|_| ())
 }
 
 fn any_reading(rng: &mut Rng) -> Reading {

@@ -1,4 +1,4 @@
-//! Currents from the study package [01 §5], by exact whole-number arithmetic
+//! Currents from the study package [01 §5, 02 §9], by exact whole-number arithmetic
 //! on the bits of the single (IEEE 754 binary32).
 
 use crate::answer::{DONE, STUDY};
@@ -19,12 +19,32 @@ pub struct Reading {
     pub rated: u64,
 }
 
+/// A reading in whole mA: rounded as it is used [01 §5], and both its sides [02 §9],
+/// the greatest not above it and the least not below it.
+#[derive(Clone, Copy, Debug, PartialEq, Eq)]
+pub struct Current {
+    pub used: u64,
+    pub lower: u64,
+    pub upper: u64,
+}
+
 #[derive(Clone, Copy, Debug, PartialEq, Eq)]
 pub struct StudyAnswer {
     pub number: u64,
     pub place: u64,
-    pub greatest: u64,
-    pub least: u64,
+    pub greatest: Current,
+    pub least: Current,
+}
+
+impl StudyAnswer {
+    pub const fn done(greatest: Current, least: Current) -> StudyAnswer {
+        StudyAnswer { number: DONE, place: 0, greatest, least }
+    }
+
+    pub const fn refused(place: u64) -> StudyAnswer {
+        let none = Current { used: 0, lower: 0, upper: 0 };
+        StudyAnswer { number: STUDY, place, greatest: none, least: none }
+    }
 }
 
 #[derive(Clone, Copy)]
@@ -34,24 +54,23 @@ enum Rounding {
 }
 
 pub fn study(greatest: Reading, least: Reading) -> StudyAnswer {
-    let refused = |place| StudyAnswer { number: STUDY, place, greatest: 0, least: 0 };
     if !rated_is_usable(greatest) || !rated_is_usable(least) {
-        return refused(0);
+        return StudyAnswer::refused(0);
     }
     let Some(greatest) = milliamperes(greatest, Rounding::Up) else {
-        return refused(1);
+        return StudyAnswer::refused(1);
     };
     let Some(least) = milliamperes(least, Rounding::Down) else {
-        return refused(2);
+        return StudyAnswer::refused(2);
     };
-    StudyAnswer { number: DONE, place: 0, greatest, least }
+    StudyAnswer::done(greatest, least)
 }
 
 fn rated_is_usable(reading: Reading) -> bool {
     reading.unit != Unit::PerUnit || (1..=MOST_CURRENT).contains(&reading.rated)
 }
 
-fn milliamperes(reading: Reading, rounding: Rounding) -> Option<u64> {
+fn milliamperes(reading: Reading, rounding: Rounding) -> Option<Current> {
     let (significand, exponent) = parts(reading.value_bits)?;
     let scale = match reading.unit {
         Unit::Ampere => 1_000,
@@ -60,8 +79,11 @@ fn milliamperes(reading: Reading, rounding: Rounding) -> Option<u64> {
     };
     let scaled = u128::from(significand) * u128::from(scale);
     let whole = times_power_of_two(scaled, exponent, rounding)?;
-    let current = u64::try_from(whole).ok()?;
-    (1..=MOST_CURRENT).contains(&current).then_some(current)
+    let used = u64::try_from(whole).ok()?;
+    (1..=MOST_CURRENT).contains(&used).then(|| {
+        let (lower, upper) = sides(scaled, exponent);
+        Current { used, lower, upper }
+    })
 }
 
 /// Significand and exponent of two, or nothing if not a number, infinite or negative.
@@ -88,4 +110,12 @@ fn times_power_of_two(scaled: u128, exponent: i32, rounding: Rounding) -> Option
         Rounding::Up if !exact => Some(down + 1),
         _ => Some(down),
     }
+}
+
+/// Lower and upper by division, of a reading that is in range as it is used. `scaled` is
+/// below 2^51, so every denominator from 2^64 on gives the same.
+fn sides(scaled: u128, exponent: i32) -> (u64, u64) {
+    let numerator = scaled << exponent.max(0);
+    let denominator = 1 << (-exponent).clamp(0, 64);
+    ((numerator / denominator) as u64, numerator.div_ceil(denominator) as u64)
 }

@@ -1,11 +1,11 @@
 //! The oracle against every combination, the linear version and the ledger,
 //! over generated cases; each failure prints its seed.
 
-use second::answer::{Answer, BACKUP, DELAY, DONE, OWN_ZONE, RANGE, STUDY};
+use second::answer::{Answer, BACKUP, DELAY, DONE, OWN_ZONE, RANGE};
 use second::generate::*;
 use second::replace::{replace, Ledger};
 use second::row::{Row, CARD_NUMBERS, FIELDS, MOST_CURRENT};
-use second::study::{study, Reading, Unit};
+use second::study::{study, Current, Reading, StudyAnswer, Unit};
 use second::whole::{fed_rows, settle, whole, Settings};
 use second::{brute, fast};
 use std::collections::BTreeMap;
@@ -210,6 +210,8 @@ fn refused_replacements_change_nothing() {
 #[test]
 fn study_agrees_with_exact_doubles() {
     let mut rng = Rng::new(11);
+    let half = Reading { unit: Unit::Ampere, value_bits: 0.5_f32.to_bits(), rated: 0 };
+    let of_half = Some(Current { used: 500, lower: 500, upper: 500 });
     for case in 0..200_000 {
         let value_bits =
             if rng.chance(20) { rng.any() } else { rng.between(0x2000_0000, 0x4d00_0000) } as u32;
@@ -218,19 +220,24 @@ fn study_agrees_with_exact_doubles() {
         let units = [(Unit::Ampere, 1_000), (Unit::Kiloampere, 1_000_000), (Unit::PerUnit, rated)];
         let (unit, scale) = rng.pick(&units);
         let exact = f64::from(f32::from_bits(value_bits)) * scale as f64;
-        let usable = |current: f64| exact >= 0.0 && (1.0..=MOST_CURRENT as f64).contains(&current);
+        let (lower, upper) = (exact.floor() as u64, exact.ceil() as u64);
+        let current = |used| {
+            let usable = exact >= 0.0 && (1..=MOST_CURRENT).contains(&used);
+            usable.then_some(Current { used, lower, upper })
+        };
+        let (up, down) = (current(upper), current(lower));
         let reading = Reading { unit, value_bits, rated };
-        let answer = study(reading, reading);
-        let place = if !usable(exact.ceil()) { 1 } else { 2 };
-        if usable(exact.ceil()) && usable(exact.floor()) {
-            let currents = (exact.ceil() as u64, exact.floor() as u64);
-            assert_eq!(
-                (answer.number, answer.greatest, answer.least),
-                (DONE, currents.0, currents.1),
-                "case {case}"
-            );
-        } else {
-            assert_eq!((answer.number, answer.place), (STUDY, place), "case {case}");
+        for (greatest, least, currents) in [
+            (reading, half, (up, of_half)),
+            (half, reading, (of_half, down)),
+            (reading, reading, (up, down)),
+        ] {
+            let expected = match currents {
+                (None, _) => StudyAnswer::refused(1),
+                (_, None) => StudyAnswer::refused(2),
+                (Some(greatest), Some(least)) => StudyAnswer::done(greatest, least),
+            };
+            assert_eq!(study(greatest, least), expected, "case {case}");
         }
     }
 }

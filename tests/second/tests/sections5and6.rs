@@ -1,54 +1,87 @@
 //! The examples of sections 5 and 6, with studies and texts that are refused.
 
 use second::answer::{DONE, STUDY};
-use second::study::{study, Reading, StudyAnswer, Unit};
+use second::study::{study, Current, Reading, StudyAnswer, Unit};
 use second::text;
 
 fn reading(unit: Unit, value: f32, rated: u64) -> Reading {
     Reading { unit, value_bits: value.to_bits(), rated }
 }
 
-fn studied(greatest: Reading, least: Reading) -> (u64, u64, u64, u64) {
+/// Number, place, and of each reading the mA used, its lower side and its upper.
+type Numbers = (u64, u64, [u64; 3], [u64; 3]);
+
+fn studied(greatest: Reading, least: Reading) -> Numbers {
     let StudyAnswer { number, place, greatest, least } = study(greatest, least);
-    (number, place, greatest, least)
+    let numbers = |Current { used, lower, upper }| [used, lower, upper];
+    (number, place, numbers(greatest), numbers(least))
 }
 
-fn both(reading: Reading) -> (u64, u64, u64, u64) {
+fn both(reading: Reading) -> Numbers {
     studied(reading, reading)
+}
+
+const fn refused(place: u64) -> Numbers {
+    (STUDY, place, [0; 3], [0; 3])
 }
 
 #[test]
 fn examples_of_section_5() {
     use Unit::*;
-    assert_eq!(both(reading(Ampere, 0.5, 0)), (DONE, 0, 500, 500));
-    assert_eq!(both(reading(Kiloampere, 100.0, 0)), (DONE, 0, 100_000_000, 100_000_000));
-    assert_eq!(both(reading(Kiloampere, 100.0_f32.next_up(), 0)), (STUDY, 1, 0, 0));
+    assert_eq!(both(reading(Ampere, 0.5, 0)), (DONE, 0, [500; 3], [500; 3]));
+    let most = [100_000_000; 3];
+    assert_eq!(both(reading(Kiloampere, 100.0, 0)), (DONE, 0, most, most));
+    assert_eq!(both(reading(Kiloampere, 100.0_f32.next_up(), 0)), refused(1));
     assert_eq!(0.1_f32.to_bits() & 0x7f_ffff | 0x80_0000, 13_421_773);
-    assert_eq!(both(reading(Kiloampere, 0.1, 0)), (DONE, 0, 100_001, 100_000));
+    let (up, down) = ([100_001, 100_000, 100_001], [100_000, 100_000, 100_001]);
+    assert_eq!(both(reading(Kiloampere, 0.1, 0)), (DONE, 0, up, down));
     let smallest = reading(Ampere, f32::from_bits(1), 0);
     let half = reading(Ampere, 0.5, 0);
-    assert_eq!(studied(smallest, half), (DONE, 0, 1, 500));
-    assert_eq!(both(smallest), (STUDY, 2, 0, 0));
+    assert_eq!(studied(smallest, half), (DONE, 0, [1, 0, 1], [500; 3]));
+    assert_eq!(both(smallest), refused(2));
+}
+
+/// Only the rounded mA is held to 1 to 100,000,000, not the other side [02 §9].
+#[test]
+fn sides_at_the_ends() {
+    use Unit::*;
+    let whole = reading(PerUnit, 1.0, 7);
+    for (value, rated, [lower, upper], greatest, least) in [
+        (0.5, 1, [0, 1], Some(1), None),
+        (0.25, 4, [1, 1], Some(1), Some(1)),
+        (0.25, 5, [1, 2], Some(2), Some(1)),
+        (44.5, 2_247_191, [99_999_999, 100_000_000], Some(100_000_000), Some(99_999_999)),
+        (1.25, 80_000_000, [100_000_000; 2], Some(100_000_000), Some(100_000_000)),
+        (1.5, 66_666_667, [100_000_000, 100_000_001], None, Some(100_000_000)),
+        (1.25, 80_000_001, [100_000_001, 100_000_002], None, None),
+    ] {
+        let end = reading(PerUnit, value, rated);
+        let as_greatest =
+            greatest.map_or(refused(1), |used| (DONE, 0, [used, lower, upper], [7; 3]));
+        let as_least = least.map_or(refused(2), |used| (DONE, 0, [7; 3], [used, lower, upper]));
+        assert_eq!((studied(end, whole), studied(whole, end)), (as_greatest, as_least), "{end:?}");
+    }
 }
 
 #[test]
 fn study_refusals() {
     use Unit::*;
     let half = reading(PerUnit, 0.5, 3);
-    assert_eq!(both(half), (DONE, 0, 2, 1));
+    assert_eq!(both(half), (DONE, 0, [2, 1, 2], [1, 1, 2]));
     for value in [f32::NAN, -f32::NAN, f32::INFINITY, -1.0, -f32::from_bits(1), 0.0, -0.0, f32::MAX]
     {
         for unit in [Ampere, Kiloampere, PerUnit] {
             let bad = reading(unit, value, 100_000_000);
-            assert_eq!(studied(bad, half), (STUDY, 1, 0, 0));
-            assert_eq!(studied(half, bad), (STUDY, 2, 0, 0));
-            assert_eq!(studied(bad, reading(PerUnit, 0.5, 0)), (STUDY, 0, 0, 0));
-            assert_eq!(studied(reading(PerUnit, 0.5, 100_000_001), bad), (STUDY, 0, 0, 0));
+            assert_eq!(studied(bad, half), refused(1));
+            assert_eq!(studied(half, bad), refused(2));
+            assert_eq!(studied(bad, reading(PerUnit, 0.5, 0)), refused(0));
+            assert_eq!(studied(reading(PerUnit, 0.5, 100_000_001), bad), refused(0));
         }
     }
-    assert_eq!(both(reading(PerUnit, 1.0, 100_000_000)), (DONE, 0, 100_000_000, 100_000_000));
+    let most = [100_000_000; 3];
+    assert_eq!(both(reading(PerUnit, 1.0, 100_000_000)), (DONE, 0, most, most));
     let least = reading(Ampere, 0.001_f32, 0);
-    assert_eq!(studied(least, half), (DONE, 0, 2, 1));
+    assert_eq!(studied(least, half), (DONE, 0, [2, 1, 2], [1, 1, 2]));
 }
 
 const TEXT: &str = "row,name,feeds_from,kind,volts,work,selfstart,return,far,clear,near,factor,\
