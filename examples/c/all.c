@@ -136,10 +136,24 @@ static void replace(void)
     show("a list whose row 2 is a motor", put_row_1(list, card, WORK, 190000));
 }
 
+/* what lies on both sides of a reading: the same number, if it is a whole number of mA */
+static void show_sides(const char *reading, uint64_t lower, uint64_t upper)
+{
+    if (lower == upper) {
+        printf("    the %s is %" PRIu64 " mA exactly\n", reading, lower);
+    } else {
+        printf("    the %s, as a single, lies between %" PRIu64 " and %" PRIu64 " mA\n", reading, lower, upper);
+    }
+}
+
 static void show_study(const char *what, SurfpocketStudy study)
 {
     printf("  %-40s %s, place %" PRIu64 ", greatest %" PRIu64 " mA, least %" PRIu64 " mA\n", what, name_of(study.number),
            study.place, study.greatest, study.least);
+    if (study.number == SURFPOCKET_DONE) {
+        show_sides("greatest", study.greatest_lower, study.greatest_upper);
+        show_sides("least", study.least_lower, study.least_upper);
+    }
 }
 
 static void study(void)
@@ -150,6 +164,10 @@ static void study(void)
                surfpocket_study(SURFPOCKET_UNIT_KILOAMPERES, 0.1f, 0, SURFPOCKET_UNIT_KILOAMPERES, 0.1f, 0));
     show_study("4.5 per unit of 630 A, and 1.2 kA",
                surfpocket_study(SURFPOCKET_UNIT_PER_UNIT, 4.5f, 630000, SURFPOCKET_UNIT_KILOAMPERES, 1.2f, 0));
+    show_study("the smallest positive single, and 0.5 A",
+               surfpocket_study(SURFPOCKET_UNIT_AMPERES, 0x1p-149f, 0, SURFPOCKET_UNIT_AMPERES, 0.5f, 0));
+    show_study("0.5 A, and 1.5 per unit of 66,666,667 mA",
+               surfpocket_study(SURFPOCKET_UNIT_AMPERES, 0.5f, 0, SURFPOCKET_UNIT_PER_UNIT, 1.5f, 66666667));
     show_study("per unit of 0 mA", surfpocket_study(SURFPOCKET_UNIT_PER_UNIT, 4.5f, 0, SURFPOCKET_UNIT_AMPERES, 0.5f, 0));
     show_study("a unit that is none of the three", surfpocket_study(4, 0.5f, 0, SURFPOCKET_UNIT_AMPERES, 0.5f, 0));
     show_study("not a number", surfpocket_study(SURFPOCKET_UNIT_AMPERES, NAN, 0, SURFPOCKET_UNIT_AMPERES, 0.5f, 0));

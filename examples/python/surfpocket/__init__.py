@@ -16,8 +16,16 @@ COLUMNS = CONSTANT["SIZE_COLUMNS"]
 DONE = CONSTANT["DONE"]
 
 
+def members(names):
+    return [(name, ctypes.c_uint64) for name in names.split()]
+
+
 class Answer(ctypes.Structure):
-    _fields_ = [("number", ctypes.c_uint64), ("place", ctypes.c_uint64), ("field", ctypes.c_uint64)]
+    _fields_ = members("number place field")
+
+
+class Study(ctypes.Structure):
+    _fields_ = members("number place greatest least greatest_lower greatest_upper least_lower least_upper")
 
 
 def load():
@@ -33,6 +41,8 @@ def load():
     library.surfpocket_whole.restype = Answer
     library.surfpocket_replace.argtypes = [pointer, size, pointer, size, number, pointer, size]
     library.surfpocket_replace.restype = Answer
+    library.surfpocket_study.argtypes = [number, ctypes.c_float, number] * 2
+    library.surfpocket_study.restype = Study
     if library.surfpocket_version() != CONSTANT["VERSION"]:
         raise RuntimeError("the library is of another version than the header")
     return library
