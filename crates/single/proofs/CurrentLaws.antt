@@ -60,19 +60,29 @@ pub negative-refused : (to : Rounding) (m : ℕ) (e : ℤ) (scale : ℕ) → 0 <
 unfolding currentOf
 negative-refused to m e scale h = simp (lt-ltb 0 m h)
 
+-- a finite single that is not negative, and no other, is judged by its sides
+not-negative : (to : Rounding) (t : Bool) (m : ℕ) (e : ℤ) (scale : ℕ) → (t ≡ true → m ≡ 0)
+    → currentOf to (fin t m e) scale ≡ ifAllowed to (sidesOf (m * up e * scale) (down e))
+unfolding currentOf
+not-negative to false m e scale h = refl
+not-negative to true zero e scale h = refl
+not-negative to true (suc m) e scale h = absurd (omega (arith, h refl))
+
+given-not-negative :
+    (to : Rounding) (t : Bool) (m : ℕ) (e : ℤ) (scale : ℕ) (s : Sides) → currentOf to (fin t m e) scale ≡ Milliamperes s → t ≡ true → m ≡ 0
+given-not-negative to false m e scale s h p = absurd (true≢false (sym p))
+given-not-negative to true zero e scale s h p = refl
+given-not-negative to true (suc m) e scale s h p = absurd (refused-is-none s (sym (negative-refused to (suc m) e scale (zero-lt-suc m)) ∙ h))
+
 pub current-gives : (to : Rounding) (x : Float) (scale : ℕ) (s : Sides) → currentOf to x scale ≡ Milliamperes s
     → Gives to x scale (used to s) × SidesAt x scale s
 unfolding currentOf
 current-gives to nan scale s h = absurd (refused-is-none s h)
 current-gives to (inf t) scale s h = absurd (refused-is-none s h)
-current-gives to (fin false m e) scale s h =
-    let g = given-sides to (m * up e * scale) (down e) s (down-pos e) h in
-    let sign : false ≡ true → m ≡ 0 = λ t. absurd (true≢false (sym t)) in
+current-gives to (fin t m e) scale s h =
+    let sign = given-not-negative to t m e scale s h in
+    let g = given-sides to (m * up e * scale) (down e) s (down-pos e) (sym (not-negative to t m e scale sign) ∙ h) in
     ((sign, used-rounds _ _ s (g .0) to, g .1, g .2), (sign, g .0))
-current-gives to (fin true zero e) scale s h =
-    let g = given-sides to (0 * up e * scale) (down e) s (down-pos e) h in
-    ((λ t. refl, used-rounds _ _ s (g .0) to, g .1, g .2), (λ t. refl, g .0))
-current-gives to (fin true (suc m) e) scale s h = absurd (refused-is-none s (sym (negative-refused to (suc m) e scale (zero-lt-suc m)) ∙ h))
 
 -- [02 §9] the current that section 5 gives is one of the sides
 pub used-is-side : (to : Rounding) (x : Float) (scale k : ℕ) (s : Sides) → Gives to x scale k → SidesAt x scale s → k ≡ used to s
@@ -82,15 +92,13 @@ used-is-side to (fin t m e) scale k s h g = rounds-unique to _ _ k (used to s) (
 
 pub gives-current :
     (to : Rounding) (x : Float) (scale k : ℕ) (s : Sides) → Gives to x scale k → SidesAt x scale s → currentOf to x scale ≡ Milliamperes s
-unfolding currentOf
-gives-current to x scale k s h g = given-by x (subst (Gives to x scale) (used-is-side to x scale k s h g) h) g
-  where
-    given-by : (x : Float) → Gives to x scale (used to s) → SidesAt x scale s → currentOf to x scale ≡ Milliamperes s
-    given-by nan h g = absurd h
-    given-by (inf t) h g = absurd h
-    given-by (fin false m e) h g = sides-given to (m * up e * scale) (down e) s (down-pos e) (g .1) (h .2) (h .3)
-    given-by (fin true zero e) h g = sides-given to (0 * up e * scale) (down e) s (down-pos e) (g .1) (h .2) (h .3)
-    given-by (fin true (suc m) e) h g = absurd (omega (arith, h .0 refl))
+gives-current to nan scale k s h g = absurd h
+gives-current to (inf t) scale k s h g = absurd h
+gives-current to (fin t m e) scale k s h g =
+    let is = used-is-side to (fin t m e) scale k s h g in
+    not-negative to t m e scale (g .0)
+    ∙ sides-given to (m * up e * scale) (down e) s (down-pos e) (g .1)
+    (subst (λ (j : ℕ). 1 ≤ j) is (h .2)) (subst (λ (j : ℕ). j ≤ 100000000) is (h .3))
 
 pub sides-exist : (t : Bool) (m : ℕ) (e : ℤ) (scale : ℕ) → (t ≡ true → m ≡ 0) → (s : Sides) × SidesAt (fin t m e) scale s
 sides-exist t m e scale h = (sidesOf (m * up e * scale) (down e), (h, sides-are _ _ (down-pos e)))
@@ -143,6 +151,4 @@ nan-refused to (inf s) scale h = refl
 nan-refused to (fin s m e) scale h = absurd (true≢false (sym h))
 
 pub zero-refused : (to : Rounding) (s : Bool) (e : ℤ) (scale : ℕ) → currentOf to (fin s 0 e) scale ≡ Refused
-unfolding currentOf
-zero-refused to true e scale = zero-mA to e scale
-zero-refused to false e scale = zero-mA to e scale
+zero-refused to s e scale = not-negative to s 0 e scale (λ t. refl) ∙ zero-mA to e scale

@@ -1,7 +1,7 @@
 -- Both sides of a fraction, over plain numbers [02 §9]: they hold it between them, differ by at most 1, and are equal exactly where it is whole; each is
 -- the fraction rounded its way. So equal fractions have the same sides.
 use Prim.Native.Nat.{ℕ, suc, _*_, _≤_, _<_}
-use native.Mathlib.Nat.{le-trans, le-of-eq, le-of-lt, le-antisymm, le-of-mul-le-mul-right}
+use native.Mathlib.Nat.{le-refl, le-trans, le-of-eq, le-of-lt, le-antisymm, le-of-mul-le-mul-right}
 use native.Mathlib.Omega.{arith}
 use mathlib.Core.Path.{_≡_, refl, sym, ap, _∙_, subst}
 use mathlib.Core.Logic.{_↔_, ⊎-elim}
@@ -18,6 +18,11 @@ sides-are n d D = record { lower = whole-rounds Down n d D; upper = whole-rounds
 pub used-of-sides : (to : Rounding) (n d : ℕ) → used to (sidesOf n d) ≡ wholeOf to n d
 used-of-sides Up n d = refl
 used-of-sides Down n d = refl
+
+-- the side that is used lies between them, being one of them
+pub used-between : (s : Sides) → s .lower ≤ s .upper → (to : Rounding) → (s .lower ≤ used to s) × (used to s ≤ s .upper)
+used-between s h Up = (h, le-refl (s .upper))
+used-between s h Down = (le-refl (s .lower), h)
 
 -- ---- equal fractions
 

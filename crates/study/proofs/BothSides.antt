@@ -9,7 +9,9 @@ use lib.IntN.{ℤ}
 use lib.Ieee.{Float, nan, inf, fin}
 use lib.Ieee.Exact.{HasValue}
 use Rattle.single.specs.declared.Sides.{Sides}
+use Rattle.single.specs.declared.Rounding.{Rounding}
 use Rattle.single.specs.declared.Rounding.the-variants.{Up, Down}
+use Rattle.single.specs.Exact.{used, HasSides}
 use Rattle.single.specs.SingleCurrent.{Gives, SidesAt}
 use Rattle.single.proofs.CurrentLaws as current
 use Rattle.single.proofs.SideLaws as side
@@ -39,13 +41,16 @@ sides-of-negative m e scale s p h = omega (arith, p, h .0 refl)
 
 -- The single is a / c in size, however that is written, so its exact mA are a * scale / c. Where it has a minus sign it is zero, by the above.
 module _ (x : Float) (minus : Bool) (a c scale : ℕ) (s : Sides) (v : HasValue x minus a c) (C : 0 < c) (h : SidesAt x scale s) where
+  of-product : HasSides (a * scale) c s
+  of-product = current.sides-by-value x minus a c scale s v C h
+
   -- the sides hold the exact mA between them
   pub sides-hold : (s .lower * c ≤ a * scale) × (a * scale ≤ s .upper * c)
-  sides-hold = side.sides-hold (a * scale) c s (current.sides-by-value x minus a c scale s v C h)
+  sides-hold = side.sides-hold (a * scale) c s of-product
 
   -- they are equal exactly where nothing was lost: where the exact mA are a whole number k
   pub sides-equal-exactly : (s .lower ≡ s .upper) ↔ ((k : ℕ) × (k * c ≡ a * scale))
-  sides-equal-exactly = side.sides-equal-exactly (a * scale) c s (current.sides-by-value x minus a c scale s v C h) C
+  sides-equal-exactly = side.sides-equal-exactly (a * scale) c s of-product C
 
 -- they differ by at most 1
 pub sides-near : (x : Float) (scale : ℕ) (s : Sides) → SidesAt x scale s → (s .lower ≤ s .upper) × (s .upper ≤ suc (s .lower))
@@ -54,25 +59,23 @@ sides-near = current.sides-near
 -- ---- the current k that section 5 gives, if any, is one of them
 
 module _ (x : Float) (scale k : ℕ) (s : Sides) (h : SidesAt x scale s) where
-  -- rounded up it is the upper one; the lower one may be 0
+  -- rounded up the upper one, rounded down the lower one
   pub up-is-upper : Gives Up x scale k → k ≡ s .upper
   up-is-upper g = current.used-is-side Up x scale k s g h
 
-  pub up-range : Gives Up x scale k → (s .lower ≤ 100000000) × (1 ≤ s .upper) × (s .upper ≤ 100000000)
-  up-range g =
-      let range = current.gives-range Up x scale k g in
-      let near = sides-near x scale s h in
-      (omega (arith, up-is-upper g, range .1, near .0), omega (arith, up-is-upper g, range .0), omega (arith, up-is-upper g, range .1))
-
-  -- rounded down it is the lower one; the upper one may be 100,000,001
   pub down-is-lower : Gives Down x scale k → k ≡ s .lower
   down-is-lower g = current.used-is-side Down x scale k s g h
 
-  pub down-range : Gives Down x scale k → (1 ≤ s .lower) × (s .lower ≤ 100000000) × (s .upper ≤ 100000001)
-  down-range g =
-      let range = current.gives-range Down x scale k g in
-      let near = sides-near x scale s h in
-      (omega (arith, down-is-lower g, range .0), omega (arith, down-is-lower g, range .1), omega (arith, down-is-lower g, range .1, near .1))
+  -- the one that is used is from 1 to 100,000,000; the other may lie outside: a lower one of 0, an upper one of 100,000,001
+  pub sides-range : (to : Rounding) → Gives to x scale k
+      → (1 ≤ used to s) × (used to s ≤ 100000000) × (s .lower ≤ 100000000) × (1 ≤ s .upper) × (s .upper ≤ 100000001)
+  sides-range to g =
+      let is = current.used-is-side to x scale k s g h in
+      let range = current.gives-range to x scale k g in
+      let low : 1 ≤ used to s = omega (arith, is, range .0) in
+      let high : used to s ≤ 100000000 = omega (arith, is, range .1) in
+      let held = side.used-between s (sides-near x scale s h .0) to in
+      (low, high, omega (arith, high, held .0), omega (arith, low, held .1), omega (arith, high, held .0, sides-near x scale s h .1))
 
 -- ---- what a study gets; sides of 0 and of 100,000,001 are in the table of `cases`
 
