@@ -1,4 +1,4 @@
--- The numbers of section 4's table, with request §2's in the place of 6, which none has; a row that can't be settled is refused, and
+-- The numbers of section 4's table, with request §2's in the place of 6, which none has, and request §11's; a row that can't be settled is refused, and
 -- not with EDIT, whatever the reason.
 use mathlib.Core.Path.{_≡_, refl, ap}
 use mathlib.Core.Bool.{false}
@@ -8,7 +8,7 @@ use native.Mathlib.Omega.{arith}
 use lib.Dec.{eqb}
 use borrow.Author.Tests.{ne-eqb}
 use Rattle.answers.specs.declared.Answer.{Answer}
-use Rattle.answers.specs.declared.Answer.the-variants.{Done, Text, Count, Room, Field, Tree, Unsettled, Study, Card, Edit}
+use Rattle.answers.specs.declared.Answer.the-variants.{Done, Text, Count, Room, Field, Tree, Unsettled, Study, Card, Edit, Input, Slope}
 use Rattle.answers.specs.declared.Cause.the-variants.{Range, OwnZone, Backup}
 use Rattle.answers.specs.declared.Reason.{Reason}
 use Rattle.answers.specs.declared.Reason.the-variants.{Pickup, Delay}
@@ -47,14 +47,16 @@ six-retired (Unsettled row Delay) = refl
 six-retired (Study place) = refl
 six-retired (Card row) = refl
 six-retired Edit = refl
+six-retired (Input place) = refl
+six-retired Slope = refl
 
--- section 4's table, line by line, 11 to 13 where 6 stood: each answer's number, its place, and the field or the fed row where one is named
+-- section 4's table, line by line, 11 to 13 where 6 stood, and 16 and 17 last: each answer's number, its place, and the field or the fed row where one is named
 pub table :
     (place field fed : ℕ) →
     map givenBy
     (Done ∷ Text place ∷ Count ∷ Room ∷ Field place field ∷ Tree place ∷ Unsettled place (Pickup Range) ∷ Unsettled place (Pickup OwnZone) ∷
-    Unsettled place (Pickup (Backup fed)) ∷ Unsettled place Delay ∷ Study place ∷ Card place ∷ Edit ∷ []) ≡
+    Unsettled place (Pickup (Backup fed)) ∷ Unsettled place Delay ∷ Study place ∷ Card place ∷ Edit ∷ Input place ∷ Slope ∷ []) ≡
     (0 ∷ 0 ∷ 0 ∷ []) ∷ (1 ∷ place ∷ 0 ∷ []) ∷ (2 ∷ 0 ∷ 0 ∷ []) ∷ (3 ∷ 0 ∷ 0 ∷ []) ∷ (4 ∷ place ∷ field ∷ []) ∷ (5 ∷ place ∷ 0 ∷ []) ∷
     (11 ∷ place ∷ 0 ∷ []) ∷ (12 ∷ place ∷ 0 ∷ []) ∷ (13 ∷ place ∷ fed ∷ []) ∷ (7 ∷ place ∷ 0 ∷ []) ∷
-    (8 ∷ place ∷ 0 ∷ []) ∷ (9 ∷ place ∷ 0 ∷ []) ∷ (10 ∷ 0 ∷ 0 ∷ []) ∷ []
+    (8 ∷ place ∷ 0 ∷ []) ∷ (9 ∷ place ∷ 0 ∷ []) ∷ (10 ∷ 0 ∷ 0 ∷ []) ∷ (16 ∷ place ∷ 0 ∷ []) ∷ (17 ∷ 0 ∷ 0 ∷ []) ∷ []
 table place field fed = refl

@@ -1,9 +1,9 @@
--- [01 §4], [02 §2] The numbers given back. 6 is retired. Definitions only.
+-- [01 §4], [02 §2, §11] The numbers given back. 6 is retired. Definitions only.
 use mathlib.Core.List.{List, [], _∷_}
 use Prim.Native.Nat.{ℕ}
 use lib.ListN.{getD}
 use Rattle.answers.specs.declared.Answer.{Answer}
-use Rattle.answers.specs.declared.Answer.the-variants.{Done, Text, Count, Room, Field, Tree, Unsettled, Study, Card, Edit}
+use Rattle.answers.specs.declared.Answer.the-variants.{Done, Text, Count, Room, Field, Tree, Unsettled, Study, Card, Edit, Input, Slope}
 use Rattle.answers.specs.declared.Cause.the-variants.{Range, OwnZone, Backup}
 use Rattle.answers.specs.declared.Reason.the-variants.{Pickup, Delay}
 
@@ -29,6 +29,8 @@ givenBy (Unsettled row Delay) = numbered 7 row 0
 givenBy (Study place) = numbered 8 place 0
 givenBy (Card row) = numbered 9 row 0
 givenBy Edit = numbered 10 0 0
+givenBy (Input place) = numbered 16 place 0
+givenBy Slope = numbered 17 0 0
 
 abbrev pub numberOf : Answer → ℕ
 numberOf a = getD (givenBy a) 0 0

@@ -1,4 +1,4 @@
-// The answers of section 4, and their numbers.
+// The answers of section 4, with those of the requests that have landed, and their numbers.
 ghost use mathlib.Core.Path.{_≡_};
 ghost use Rattle.answers.specs.declared.Answer.the-variants.{Unsettled};
 ghost use Rattle.answers.specs.Answer.{givenBy};
@@ -17,7 +17,7 @@ pub enum Reason {
     Delay,
 }
 
-// The answers of section 4, each with its place: lines, rows and fields from 1.
+// The answers, each with its place: lines, rows, fields and inputs from 1.
 pub enum Answer {
     Done,
     Text(u64),
@@ -29,6 +29,8 @@ pub enum Answer {
     Study(u64),
     Card(u64),
     Edit,
+    Input(u64),
+    Slope,
 }
 
 // What a test finds.
@@ -67,5 +69,7 @@ pub fn numbers(a: Answer) -> [u64; NUMBERS]
         Answer::Study(place) => [8, place, 0],
         Answer::Card(row) => [9, row, 0],
         Answer::Edit => [10, 0, 0],
+        Answer::Input(place) => [16, place, 0],
+        Answer::Slope => [17, 0, 0],
     }
 }

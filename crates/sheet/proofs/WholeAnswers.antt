@@ -8,7 +8,7 @@ use lib.Dec.{lit≤}
 use lib.ListN.{length, getD}
 use Rattle.fold.proofs.BoolLaws.{not-both}
 use Rattle.answers.specs.declared.Answer.{Answer}
-use Rattle.answers.specs.declared.Answer.the-variants.{Done, Text, Count, Room, Field, Tree, Unsettled, Study, Card, Edit}
+use Rattle.answers.specs.declared.Answer.the-variants.{Done, Text, Count, Room, Field, Tree, Unsettled, Study, Card, Edit, Input, Slope}
 use Rattle.answers.specs.declared.Reason.the-variants.{Pickup}
 use Rattle.answers.specs.Answer.{givenBy}
 use Rattle.answers.proofs.AnswerLaws.{unsettled-above, unsettled-not-0}
@@ -34,6 +34,8 @@ given-done (Unsettled row why) h = absurd (not-both h (unsettled-not-0 row why))
 given-done (Study place) h = absurd (false≢true h)
 given-done (Card row) h = absurd (false≢true h)
 given-done Edit h = absurd (false≢true h)
+given-done (Input place) h = absurd (false≢true h)
+given-done Slope h = absurd (false≢true h)
 
 pub blank-room : cardMost ≤ length blankCard
 unfolding blankCard

@@ -38,6 +38,12 @@ enum-known-a-6 c = search needs
 enum-told-4 : tie.Need-enum-told-4
 enum-told-4 c = search needs
 
+enum-known-a-7 : tie.Need-enum-known-a-7
+enum-known-a-7 c = search needs
+
+enum-told-5 : tie.Need-enum-told-5
+enum-told-5 c = search needs
+
 returns : tie.Need-returns
 returns c = search needs
 
@@ -68,6 +74,12 @@ returns-9 c = ap givenBy (sym (c .before .a6 .given .1))
 returns-10 : tie.Need-returns-10
 returns-10 c = search needs
 
+returns-11 : tie.Need-returns-11
+returns-11 c = ap givenBy (sym (c .before .a7 .given .1))
+
+returns-12 : tie.Need-returns-12
+returns-12 c = search needs
+
 pub numbers-spec : {M : Type 1} → statement M
 numbers-spec =
     tie.close
@@ -83,6 +95,8 @@ numbers-spec =
     enum-known-a-5
     enum-known-a-6
     enum-told-4
+    enum-known-a-7
+    enum-told-5
     returns
     returns-2
     returns-3
@@ -92,4 +106,6 @@ numbers-spec =
     returns-7
     returns-8
     returns-9
-    returns-10)
+    returns-10
+    returns-11
+    returns-12)
