@@ -5,11 +5,12 @@ use Prim.Native.Nat.{ℕ, _+_, _*_, _<_}
 use native.Mathlib.Omega.{arith}
 use lib.ListN.{length, length-append}
 use Rattle.text.specs.declared.Reading.the-variants.{Rows}
-use Rattle.text.specs.Line.{numbersOf, placesOf}
+use Rattle.text.specs.Line.{placesOf}
 use Rattle.text.specs.Grammar.{rowsAs, allNames}
 use Rattle.cursor.specs.Names.{namesAt}
-use Rattle.text.specs.Text.{lineLength, afterLine, rowLines, rowsReadAs, allNumbers, allPlaces, numbersAs, placesAs}
-use Rattle.text.proofs.ColumnLaws.{numbers-long, places-long}
+use Rattle.text.specs.Text.{lineLength, afterLine, rowLines, allPlaces, numbersAs, placesAs}
+use Rattle.text.proofs.ColumnLaws.{places-long}
+use Rattle.text.proofs.CountLaws.{rows-read, all-numbers-long}
 use Rattle.text.proofs.GrammarTheorem.{accepted}
 use Rattle.text.proofs.PlaceLaws.{names-stand}
 use Rattle.text.proofs.StandLaws.{Stand, PlaceInside, inside-at}
@@ -17,14 +18,7 @@ use Rattle.list.specs.Header.{header}
 use Rattle.layout.specs.Counts.{fieldCount}
 use Rattle.list.specs.List.{listLayout, listColumns, reading, rowsOf, rowsRead, rowNumbers, rowPlaces}
 
--- a line has a row's numbers and one place
-numbers-length : (ls : List (List ℕ)) → length (allNumbers listColumns ls) ≡ length ls * fieldCount
-unfolding allNumbers
-numbers-length [] = refl
-numbers-length (l ∷ ls) =
-    length-append (numbersOf listColumns l) (allNumbers listColumns ls) ∙
-    (let a = numbers-long listLayout l in let b = numbers-length ls in omega arith)
-
+-- a line has one place
 places-length : (i : ℕ) (ls : List (List ℕ)) → length (allPlaces listColumns i ls) ≡ length ls * 2
 unfolding allPlaces
 places-length i [] = refl
@@ -41,7 +35,7 @@ pub record RowsStand (s : List ℕ) (n : ℕ) : Type 0 where
   pub names : namesAt s n (rowPlaces s) ≡ allNames (rowsOf s)
 
 pub rows-stand : (s : List ℕ) (n : ℕ) → reading s ≡ Rows n → RowsStand s n
-unfolding rowsReadAs numbersAs placesAs rowsAs rowLines afterLine
+unfolding numbersAs placesAs rowsAs rowLines afterLine
 rows-stand s n e =
     let a = accepted header listColumns 1 s n e in
     let z : lineLength s + 2 ≡ 0 + lineLength s + 2 = omega arith in
@@ -51,8 +45,8 @@ rows-stand s n e =
     let long = places-length (0 + lineLength s + 2) (rowLines s) in
     let count : length (allNames (rowsOf s)) ≡ n = omega (arith, t .long, a .count) in
     record {
-      read = rw (a .size, a .headed-is) (a .good ∙ a .count);
-      numbers-long = numbers-length (rowLines s) ∙ ap (λ (k : ℕ). k * fieldCount) (a .count);
+      read = rows-read header listColumns 1 s n e;
+      numbers-long = all-numbers-long listLayout (rowLines s) ∙ ap (λ (k : ℕ). k * fieldCount) (a .count);
       places-long = long ∙ ap (λ (k : ℕ). k * 2) (a .count);
       inside = λ k h. inside-at (length s) (rowPlaces s) k (t .inside) (omega (arith, a .count));
       names = rw (← count) (t .are);

@@ -3,7 +3,7 @@ use mathlib.Core.Path.{_≡_, refl}
 use mathlib.Core.List.{[], _∷_}
 use Rattle.cursor.specs.Spelt.{spelt}
 use Rattle.print.specs.Write.{lastDigit, lastDigits, numberText}
-use Rattle.print.specs.Card.{fieldsText, lineText, rowsText, cardText, refusalText}
+use Rattle.print.specs.Card.{fieldsText, numbersText, lineText, rowsText, cardText, refusalText}
 
 pub card-printed :
     cardText (spelt "F1" ∷ spelt "IN" ∷ []) (318000 ∷ 1900 ∷ 1300000 ∷ 360000 ∷ 2200 ∷ 4290000 ∷ []) ≡
@@ -12,11 +12,11 @@ unfolding lastDigit lastDigits numberText fieldsText lineText rowsText cardText 
 card-printed = refl
 
 pub refusal-printed : refusalText (4 ∷ 2 ∷ 12 ∷ []) ≡ spelt "refused,place,field\r\n4,2,12\r\n"
-unfolding lastDigit lastDigits numberText fieldsText refusalText spelt
+unfolding lastDigit lastDigits numberText fieldsText numbersText refusalText spelt
 refusal-printed = refl
 
 pub backup-printed : refusalText (13 ∷ 6 ∷ 5 ∷ []) ≡ spelt "refused,place,field\r\n13,6,5\r\n"
-unfolding lastDigit lastDigits numberText fieldsText refusalText spelt
+unfolding lastDigit lastDigits numberText fieldsText numbersText refusalText spelt
 backup-printed = refl
 
 -- 0 is a digit, and the longest number has 20

@@ -7,7 +7,7 @@ use native.Mathlib.Omega.{arith}
 use lib.ListN.{length, drop, getD, length-append}
 use lib.Seq.{drop-drop, getD-drop}
 use Rattle.print.specs.Write.{numberText}
-use Rattle.print.specs.Card.{fieldMost, fieldsText}
+use Rattle.print.specs.Card.{fieldMost, numbersLineMost, fieldsText, numbersText, lineEnd}
 use Rattle.print.proofs.DigitLaws.{number-few}
 
 pub fields-short : (k : ℕ) (values : List ℕ) → length (fieldsText k values) ≤ k * fieldMost
@@ -16,6 +16,20 @@ fields-short zero values = omega arith
 fields-short (suc k) values =
     omega
     (arith, fields-short k (drop 1 values), number-few (getD values 0 0), length-append (44 ∷ numberText (getD values 0 0)) (fieldsText k (drop 1 values)))
+
+-- a line of k numbers
+pub numbers-short : (k : ℕ) (values : List ℕ) → length (numbersText k values) ≤ numbersLineMost k
+unfolding numbersText
+numbers-short k values =
+    let first = numberText (getD values 0 0) in
+    let more = fieldsText (k - 1) (drop 1 values) in
+    omega (
+      arith,
+      number-few (getD values 0 0),
+      fields-short (k - 1) (drop 1 values),
+      length-append first more,
+      length-append (first ++ more) lineEnd,
+    )
 
 -- what is left of m numbers, from the place `from` on, behind k of them
 abbrev pub fieldsLeft : ℕ → List ℕ → ℕ → ℕ → List ℕ

@@ -1,12 +1,12 @@
 -- What is printed in the end: a refusal, a card, or nothing.
-use mathlib.Core.Path.{_≡_, refl}
+use mathlib.Core.Path.{_≡_, refl, sym, ap, _∙_}
 use mathlib.Core.Bool.{true, false}
 use mathlib.Core.List.{List, [], _++_}
-use Prim.Native.Nat.{ℕ, zero, suc, _+_, _-_, _*_, _≤_, _<_}
+use Prim.Native.Nat.{ℕ, zero, suc, _+_, _*_, _≤_, _<_}
 use native.Mathlib.Nat.{add-assoc}
 use native.Mathlib.Numerals.{one-add}
 use native.Mathlib.Omega.{arith}
-use lib.ListN.{length, drop, getD, length-append}
+use lib.ListN.{length, take, drop, getD, length-append}
 use lib.Seq.{drop-drop, take-append-seam}
 use borrow.Author.Tests.{le-leb, lt-leb}
 use Rattle.layout.specs.Counts.{columnCount}
@@ -14,12 +14,11 @@ use Rattle.fold.proofs.FoldLaws.{every-at}
 use Rattle.answers.specs.Answer.{numberCount}
 use Rattle.cursor.specs.Pieces.{nameMost}
 use Rattle.cursor.specs.Names.{nameAtPlace, namesAt}
-use Rattle.print.specs.Write.{numberText, written, Wrote}
-use Rattle.print.specs.Card.{headerSize, lineMost, refusalMost, cardHeader, refusalHeader, lineEnd}
-use Rattle.print.specs.Card.{fieldsText, lineText, rowsText, cardText, refusalText}
+use Rattle.print.specs.Write.{written, Wrote}
+use Rattle.print.specs.Card.{headerSize, lineMost, refusalMost, cardHeader, refusalHeader}
+use Rattle.print.specs.Card.{numbersText, lineText, rowsText, cardText, refusalText}
 use Rattle.print.specs.Card.{placeRight, printable, Printed, cardPrinted, refusalPrinted}
-use Rattle.print.proofs.DigitLaws.{number-few}
-use Rattle.print.proofs.FieldsLaws.{fields-short}
+use Rattle.print.proofs.FieldsLaws.{numbers-short}
 use Rattle.print.proofs.PlaceLaws.{place-was, printable-room}
 use Rattle.print.proofs.WriteLaws.{written-none, wrote-then}
 use Rattle.print.proofs.CardLaws.{line-short}
@@ -37,45 +36,33 @@ wrote-printed out xs out′ r h k w =
       count = e;
     }
 
+-- the bytes printed are as many as the answer says
+pub printed-long : {out xs out′ : List ℕ} {r : ℕ} → Printed out xs out′ r → r ≡ length (take r out′)
+printed-long p = p .count ∙ ap length (sym (p .bytes))
+
 pub nothing-printed : (out : List ℕ) → Printed out [] out 0
 nothing-printed out =
     record { fits = omega arith; bytes = refl; buffer = written-none out 0; count = refl }
 
--- a refusal: too little room, or its parts one behind the other
+-- a refusal: too little room, or its header and its line
 pub refusal-none : (numbers out : List ℕ) → length out < refusalMost → Printed out (refusalPrinted numbers (length out)) out 0
 unfolding refusalPrinted
 refusal-none numbers out h = rw (lt-leb refusalMost (length out) h) (nothing-printed out)
 
 pub refusal-short : (numbers : List ℕ) → length (refusalText numbers) ≤ refusalMost
 unfolding refusalText
-refusal-short numbers =
-    let first = numberText (getD numbers 0 0) in
-    let more = fieldsText (numberCount - 1) (drop 1 numbers) in
-    let n = number-few (getD numbers 0 0) in
-    let m = fields-short (numberCount - 1) (drop 1 numbers) in
-    let a = length-append refusalHeader first in
-    let b = length-append (refusalHeader ++ first) more in
-    omega (arith, n, m, a, b, length-append (refusalHeader ++ first ++ more) lineEnd)
+refusal-short numbers = omega (arith, numbers-short numberCount numbers, length-append refusalHeader (numbersText numberCount numbers))
 
 pub refusal-all :
-    (numbers out o₁ o₂ o₃ o₄ : List ℕ) (r₁ r₂ r₃ r₄ : ℕ) → refusalMost ≤ length out → length o₄ ≡ length out →
-    Wrote out 0 refusalHeader o₁ r₁ → Wrote o₁ r₁ (numberText (getD numbers 0 0)) o₂ r₂ →
-    Wrote o₂ r₂ (fieldsText (numberCount - 1) (drop 1 numbers)) o₃ r₃ → Wrote o₃ r₃ lineEnd o₄ r₄ →
-    Printed out (refusalPrinted numbers (length out)) o₄ r₄
+    (numbers out o₁ o₂ : List ℕ) (r₁ r₂ : ℕ) → refusalMost ≤ length out → length o₂ ≡ length out →
+    Wrote out 0 refusalHeader o₁ r₁ → Wrote o₁ r₁ (numbersText numberCount numbers) o₂ r₂ →
+    Printed out (refusalPrinted numbers (length out)) o₂ r₂
 unfolding refusalPrinted refusalText
-refusal-all numbers out o₁ o₂ o₃ o₄ r₁ r₂ r₃ r₄ h same w₁ w₂ w₃ w₄ =
-    let first = numberText (getD numbers 0 0) in
-    let more = fieldsText (numberCount - 1) (drop 1 numbers) in
-    let a : List ℕ = refusalHeader ++ first in
-    let b : List ℕ = a ++ more in
-    let n = number-few (getD numbers 0 0) in
-    let m = fields-short (numberCount - 1) (drop 1 numbers) in
-    let la : length a ≡ length refusalHeader + length first = length-append refusalHeader first in
-    let lb = length-append a more in
-    let v₂ = wrote-then out 0 refusalHeader o₁ r₁ first o₂ r₂ (omega arith) w₁ w₂ in
-    let v₃ = wrote-then out 0 a o₂ r₂ more o₃ r₃ (omega arith) v₂ w₃ in
-    let v₄ = wrote-then out 0 b o₃ r₃ lineEnd o₄ r₄ (omega arith) v₃ w₄ in
-    rw (le-leb refusalMost (length out) h) (wrote-printed out (b ++ lineEnd) o₄ r₄ (omega (arith, length-append b lineEnd)) same v₄)
+refusal-all numbers out o₁ o₂ r₁ r₂ h same w₁ w₂ =
+    let line = numbersText numberCount numbers in
+    let n = numbers-short numberCount numbers in
+    let v = wrote-then out 0 refusalHeader o₁ r₁ line o₂ r₂ (omega arith) w₁ w₂ in
+    rw (le-leb refusalMost (length out) h) (wrote-printed out (refusalHeader ++ line) o₂ r₂ (omega (arith, length-append refusalHeader line)) same v)
 
 -- the card: nothing, or its header and its rows
 pub card-none :

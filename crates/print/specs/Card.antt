@@ -41,11 +41,15 @@ rowsText (name ∷ names) card = lineText name card ++ rowsText names (drop colu
 unfoldable pub cardText : List (List ℕ) → List ℕ → List ℕ
 cardText names card = cardHeader ++ rowsText names card
 
--- the numbers of a refusal, with commas between
-unfoldable pub refusalText : List ℕ → List ℕ
-refusalText numbers = refusalHeader ++ numberText (getD numbers 0 0) ++ fieldsText (numberCount - 1) (drop 1 numbers) ++ lineEnd
+-- k numbers, at least one, with commas between, in a line of their own
+unfoldable pub numbersText : ℕ → List ℕ → List ℕ
+numbersText k values = numberText (getD values 0 0) ++ fieldsText (k - 1) (drop 1 values) ++ lineEnd
 
--- the bytes of the card's header, and at most those of a field, of the fields, of a line of the card and of a refusal
+-- a refusal: its header, and its numbers
+unfoldable pub refusalText : List ℕ → List ℕ
+refusalText numbers = refusalHeader ++ numbersText numberCount numbers
+
+-- the bytes of the card's header, and at most those of a field, of the fields, of a line of the card, of a line of k numbers and of a refusal
 abbrev pub headerSize : ℕ
 headerSize = 26
 
@@ -58,8 +62,11 @@ fieldsMost = columnCount * fieldMost
 abbrev pub lineMost : ℕ
 lineMost = nameMost + fieldsMost + 2
 
+abbrev pub numbersLineMost : ℕ → ℕ
+numbersLineMost k = digitsMost + (k - 1) * fieldMost + length lineEnd
+
 abbrev pub refusalMost : ℕ
-refusalMost = length refusalHeader + digitsMost + (numberCount - 1) * fieldMost + length lineEnd
+refusalMost = length refusalHeader + numbersLineMost numberCount
 
 -- name i has at most 24 bytes and stands inside a text of so many bytes
 unfoldable pub placeRight : ℕ → List ℕ → ℕ → Bool

@@ -1,5 +1,5 @@
 // Printing the card and a refusal [01 §6].
-mod write;
+pub mod write;
 
 use answers::NUMBERS;
 use layout::COLUMNS;
@@ -7,10 +7,8 @@ use write::DIGITS_MOST;
 use write::END;
 use write::FIELD_MOST;
 use write::put_block;
-use write::put_end;
-use write::put_fields;
 use write::put_line;
-use write::put_number;
+use write::put_numbers;
 ghost use mathlib.Core.Path.{_≡_};
 ghost use Prim.Native.Nat.{_+_, _*_, _≤_};
 ghost use lib.ListN.{length, drop};
@@ -132,7 +130,5 @@ pub fn print_refusal(numbers: [u64; NUMBERS], out: &mut [u8]) -> usize
         return 0;
     }
     let named = put_block(out, 0, b"refused,place,field\r\n");
-    let begun = put_number(out, named, numbers[0]);
-    let done = put_fields(out, begun, &numbers, 1, NUMBERS - 1);
-    put_end(out, done)
+    put_numbers(out, named, &numbers, NUMBERS)
 }

@@ -1,22 +1,21 @@
 // Writing bytes, numbers and lines into a buffer, each from a place on; the answer is the place behind.
 use blocks::put_bytes;
 use layout::COLUMNS;
-ghost use mathlib.Core.Path.{_≡_};
-ghost use mathlib.Core.List.{[], _∷_};
+ghost use mathlib.Core.List.{_∷_};
 ghost use Prim.Native.Nat.{_+_, _*_, _≤_};
 ghost use lib.ListN.{length, drop};
 ghost use Rattle.layout.specs.Counts.{columnCount};
 ghost use Rattle.print.specs.Write.{Wrote, digitsMost, numberText};
-ghost use Rattle.print.specs.Card.{fieldMost, fieldsMost, fieldsText, lineText, lineEnd};
+ghost use Rattle.print.specs.Card.{fieldMost, fieldsMost, numbersLineMost, fieldsText, numbersText, lineText, lineEnd};
 
 // The bytes of a number and of a comma and a number, at most, and of a line's end.
-pub(crate) const DIGITS_MOST: usize = 20;
+pub const DIGITS_MOST: usize = 20;
 
-pub(crate) const FIELD_MOST: usize = DIGITS_MOST + 1;
+pub const FIELD_MOST: usize = DIGITS_MOST + 1;
 
-pub(crate) const END: usize = 2;
+pub const END: usize = 2;
 
-pub(crate) fn put_block(out: &mut [u8], at: usize, block: &[u8]) -> usize
+pub fn put_block(out: &mut [u8], at: usize, block: &[u8]) -> usize
     requires { ⌜ at + length (now block) ≤ length (now out) ⌝ }
     ensures { λ r. ⌜ Wrote (now (out .entry)) at (now (block .entry)) (now (out .exit)) r ⌝ }
 {
@@ -75,6 +74,16 @@ pub(crate) fn put_fields(
         k += 1;
     }
     next
+}
+
+// The first so many numbers, at least one, with commas between, and the end of their line.
+pub fn put_numbers(out: &mut [u8], at: usize, values: &[u64], count: usize) -> usize
+    requires { ⌜ (at + numbersLineMost count ≤ length (now out)) × (1 ≤ count) × (count ≤ length (now values)) ⌝ }
+    ensures { λ r. ⌜ Wrote (now (out .entry)) at (numbersText count (now (values .entry))) (now (out .exit)) r ⌝ }
+{
+    let begun = put_number(out, at, values[0]);
+    let done = put_fields(out, begun, values, 1, count - 1);
+    put_end(out, done)
 }
 
 // One line of the card.

@@ -2,11 +2,10 @@
 use mathlib.Core.Path.{_≡_, refl, sym, ap, ap₂, _∙_}
 use mathlib.Core.Bool.{true}
 use mathlib.Core.List.{List, _∷_, _++_}
-use Prim.Native.Nat.{ℕ, zero, suc, _+_, _-_, _*_, _/_, _≤_, _<_, min}
-use native.Mathlib.Nat.{min-eq-left}
+use Prim.Native.Nat.{ℕ, zero, suc, _+_, _-_, _*_, _/_, _≤_, _<_}
 use native.Mathlib.Omega.{arith}
 use lib.ListN.{length, getD, take, drop, List·getD-append}
-use lib.Seq.{paste, take-all, take-at, drop-append-le, length-take-le}
+use lib.Seq.{paste, take-at, drop-append-le, length-take-le}
 use borrow.Author.Tests.{le-leb, lt-leb, eq-eqb, ne-eqb}
 use Rattle.layout.specs.Counts.{fieldCount, columnCount, cardMost, rowsMost}
 use Rattle.fold.proofs.BoolLaws.{and-both}
@@ -17,7 +16,6 @@ use Rattle.rows.proofs.TestLaws.{size-over}
 use Rattle.text.specs.declared.Reading.the-variants.{BadLine, Rows}
 use Rattle.cursor.specs.Names.{nameAtPlace, namesAt}
 use Rattle.list.specs.List.{reading, rowNumbers, rowPlaces}
-use Rattle.text.specs.Text.{over, blocksOver}
 use Rattle.print.specs.Card.{headerSize, lineMost, placeRight, printable, cardPrinted, refusalMost, refusalPrinted, Printed}
 use Rattle.print.specs.Write.{written}
 use Rattle.print.proofs.PrintLaws.{nothing-printed, wrote-printed}
@@ -27,15 +25,9 @@ use Rattle.calculate.specs.Whole.{whole}
 use Rattle.calculate.proofs.AnswerLaws.{answered-size}
 use Rattle.sheet.specs.Ready.{RowsReady}
 use Rattle.sheet.specs.Sheet.{namesOf, blankCard, Sheet, refusedWith, sheetWith, sheetBy, sheetOf, fitted, sheetMost, Filled}
+use Rattle.text.proofs.BlockLaws.{blocks-front}
 use Rattle.text.proofs.StandLaws.{PlaceInside}
 use Rattle.list.proofs.PlaceLaws.{RowsStand, rows-stand}
-
--- a buffer over whose start n blocks of w numbers were written
-blocks-front : (w n : ℕ) (xs l : List ℕ) → n ≤ 256 → length xs ≡ n * w → blocksOver rowsMost w n xs l ≡ xs ++ drop (length xs) l
-unfolding blocksOver over
-blocks-front w n xs l h e =
-    let m : min n 256 ≡ n = min-eq-left h in
-    rw (m, take-all (n * w) xs (omega arith))
 
 -- names read from the front of a buffer are those of the front
 names-front : (s : List ℕ) (n : ℕ) (ps rest : List ℕ) → n * 2 ≤ length ps → namesAt s n (ps ++ rest) ≡ namesAt s n ps
@@ -68,10 +60,10 @@ module _ (s list names : List ℕ) (n room : ℕ) (r : RowsReady s list names n 
 
   module _ (few : n ≤ 256) where
     list-is : list ≡ rowNumbers s ++ drop (length (rowNumbers s)) (r .before-list)
-    list-is = r .numbers ∙ rw (stand .read) (blocks-front fieldCount n (rowNumbers s) (r .before-list) few (stand .numbers-long))
+    list-is = r .numbers ∙ rw (stand .read) (blocks-front rowsMost fieldCount n (rowNumbers s) (r .before-list) few (stand .numbers-long))
 
     names-is : names ≡ rowPlaces s ++ drop (length (rowPlaces s)) (r .before-names)
-    names-is = r .places ∙ rw (stand .read) (blocks-front 2 n (rowPlaces s) (r .before-names) few (stand .places-long))
+    names-is = r .places ∙ rw (stand .read) (blocks-front rowsMost 2 n (rowPlaces s) (r .before-names) few (stand .places-long))
 
     pub numbers-front : take (n * fieldCount) list ≡ rowNumbers s
     numbers-front = ap (take (n * fieldCount)) list-is ∙ take-at (rowNumbers s) _ (n * fieldCount) (stand .numbers-long)

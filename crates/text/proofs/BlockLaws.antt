@@ -3,10 +3,10 @@ use mathlib.Core.Path.{_≡_, sym, ap, _∙_}
 use mathlib.Core.Logic.{⊎-elim}
 use mathlib.Core.List.{List, _++_}
 use Prim.Native.Nat.{ℕ, _+_, _*_, _/_, _≤_, _<_, min}
-use native.Mathlib.Nat.{suc-mul, add-mul, one-mul, zero-mul, mul-le-mul-right, le-trans, div-mul-le-self, div-zero}
+use native.Mathlib.Nat.{suc-mul, add-mul, one-mul, zero-mul, mul-le-mul-right, le-trans, div-mul-le-self, div-zero, min-eq-left}
 use native.Mathlib.Omega.{arith}
 use lib.ListN.{length, take, drop, length-append}
-use lib.Seq.{paste, take-add, drop-drop, take-at, drop-at, length-take-le, take-length}
+use lib.Seq.{paste, take-add, drop-drop, take-at, drop-at, length-take-le, take-length, take-all}
 use borrow.Author.Tests.{lt-ltb, le-ltb}
 use Rattle.fold.proofs.BoolLaws.{lt-or-le}
 use Rattle.text.specs.Text.{over, keptIn, keptFront, blocksOver}
@@ -89,3 +89,10 @@ module _ (w n : ℕ) (xs block rest : List ℕ) (e : drop (n * w) xs ≡ block +
       above k =
           let a : min n room ≡ min (n + 1) room = omega arith in
           sym (kept-above room n block l′ k) ∙ rw a at q
+
+-- a buffer over whose start n blocks of w numbers were written, there being room for them
+pub blocks-front : (room w n : ℕ) (xs l : List ℕ) → n ≤ room → length xs ≡ n * w → blocksOver room w n xs l ≡ xs ++ drop (length xs) l
+unfolding blocksOver over
+blocks-front room w n xs l h e =
+    let m : min n room ≡ n = min-eq-left h in
+    rw (m, take-all (n * w) xs (omega arith))

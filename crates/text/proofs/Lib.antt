@@ -1,5 +1,6 @@
 pub mod BlockLaws
 pub mod ColumnLaws
+pub mod CountLaws
 pub mod CrlfLaws
 pub mod CutLaws
 pub mod ExampleLaws

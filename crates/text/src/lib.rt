@@ -37,7 +37,7 @@ pub enum Reading {
 }
 
 // A text has at most so many bytes.
-const TEXT_MOST: usize = 65536;
+pub const TEXT_MOST: usize = 65536;
 
 // The lines from a cursor on, a row in each.
 pub fn read_rows(
