@@ -1,10 +1,10 @@
 -- `card::main` meets its contract: what was read lies in its buffer, and what is printed in the other.
 use borrow.Author.Needs.{needs}
 use native.Mathlib.Omega.{arith}
-use mathlib.Core.Path.{sym, ap, _∙_, subst}
-use lib.ListN.{length}
-use Rattle.card.specs.declared.Input.{Input}
-use Rattle.card.specs.Input.{Held}
+use mathlib.Core.Path.{subst}
+use Rattle.print.proofs.PrintLaws.{printed-long}
+use Rattle.console.specs.declared.Input.{Input}
+use Rattle.console.specs.Input.{Held}
 use Rattle.card.proofs.main.Statement.{statement}
 use Rattle.card.proofs.main.Tie as tie
 
@@ -45,9 +45,7 @@ array-share-prefix-out : tie.Need-array-share-prefix-out
 array-share-prefix-out c = search needs
 
 slice-aggregate-write-output : tie.Need-slice-aggregate-write-output
-slice-aggregate-write-output c =
-    let p = c .before .before .print-read .ensures in
-    p .count ∙ ap length (sym (p .bytes))
+slice-aggregate-write-output c = printed-long (c .before .before .print-read .ensures)
 
 write-output-requires : tie.Need-write-output-requires
 write-output-requires c κs = search needs

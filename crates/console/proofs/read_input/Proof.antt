@@ -1,11 +1,11 @@
--- `card::read_input` meets its contract. The loop's invariant: what is read lies in the buffer, which keeps its length. The measure is
+-- `console::read_input` meets its contract. The loop's invariant: what is read lies in the buffer, which keeps its length. The measure is
 -- what is left of the buffer.
 use borrow.Author.Needs.{needs}
 use mathlib.Core.Path.{_≡_}
 use Prim.Native.Nat.{_-_, _≤_}
 use lib.ListN.{length}
-use Rattle.card.proofs.read_input.Statement.{statement}
-use Rattle.card.proofs.read_input.Tie as tie
+use Rattle.console.proofs.read_input.Statement.{statement}
+use Rattle.console.proofs.read_input.Tie as tie
 
 abbrev Inv-loop : tie.InvT-loop
 Inv-loop text₀ done₀ text done = (done ≤ length text) × (length text ≡ length text₀)
