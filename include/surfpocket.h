@@ -1,4 +1,4 @@
-/* Surfpocket: settings cards of overcurrent relays, worked out by proved code.
+/* Surfpocket: settings cards of overcurrent relays and of transformer differential relays, worked out by proved code.
 
    `rt staticlib surfpocket` makes target/staticlib/libsurfpocket.a to link.
 
@@ -14,6 +14,7 @@
          surfpocket_whole      20 KiB
          surfpocket_replace    92 KiB for the first row of a chain: 12 KiB, and 288 bytes a row from the new one to the source
          surfpocket_study       1 KiB
+         surfpocket_differential 1 KiB
          surfpocket_card       96 KiB
      A thread made for such a call needs what the thread itself takes besides.
 
@@ -32,7 +33,7 @@ extern "C" {
 /* Grows with every change of a number or a struct of this header. A caller built with another header than the library's would be
    misread in silence, or its struct written past its end: where that can happen, as with a shared object, compare the two first,
    and stop if they differ. */
-#define SURFPOCKET_VERSION 3
+#define SURFPOCKET_VERSION 4
 uint64_t surfpocket_version(void);
 
 /* Sizes. The first two grow in later versions, so use their names.
@@ -60,11 +61,18 @@ uint64_t surfpocket_version(void);
 #define SURFPOCKET_REFUSED_RANGE 11
 #define SURFPOCKET_REFUSED_OWN_ZONE 12
 #define SURFPOCKET_REFUSED_BACKUP 13
+#define SURFPOCKET_REFUSED_INPUT 16
+#define SURFPOCKET_REFUSED_SLOPE 17
 
 /* The units of a reading. */
 #define SURFPOCKET_UNIT_AMPERES 1
 #define SURFPOCKET_UNIT_KILOAMPERES 2
 #define SURFPOCKET_UNIT_PER_UNIT 3
+
+/* The verdicts of the differential protection on a measured pair. */
+#define SURFPOCKET_VERDICT_TRIP 1
+#define SURFPOCKET_VERDICT_HOLD 2
+#define SURFPOCKET_VERDICT_BLOCKED 3
 
 /* Number, place (a row from 1, or 0) and what names it more closely: for FIELD the field from 1, for BACKUP the fed row from 1, for
    any other number 0. */
@@ -87,6 +95,19 @@ typedef struct {
     uint64_t least_lower;
     uint64_t least_upper;
 } SurfpocketStudy;
+
+/* Number, place (for INPUT the argument, from 1, otherwise 0), the differential card: start, bend, blocking and cutoff in hundredths of
+   the rated current, the slope in hundredths; and the verdict. Refused, the card's five and the verdict are 0. */
+typedef struct {
+    uint64_t number;
+    uint64_t place;
+    uint64_t start;
+    uint64_t bend;
+    uint64_t slope;
+    uint64_t blocking;
+    uint64_t cutoff;
+    uint64_t verdict;
+} SurfpocketDifferential;
 
 /* As SurfpocketAnswer, for TEXT with the line as its place, and how many bytes were written. */
 typedef struct {
@@ -128,6 +149,21 @@ SurfpocketAnswer surfpocket_replace(uint64_t *list, size_t list_length, uint64_t
    A caller that has made that flag a trap screens its readings first. */
 SurfpocketStudy surfpocket_study(uint64_t greatest_unit, float greatest, uint64_t greatest_rated,
                                  uint64_t least_unit, float least, uint64_t least_rated);
+
+/* The differential card of a transformer, and the verdict on one measured pair. Every argument is a whole number of hundredths of
+   the rated current: start, blocking and cutoff as they are to be set, through the greatest outside fault current; then what was
+   measured: the currents of the first and of the second side, the differential and the restraint. For the card alone, give 0 for
+   the measured four. In hundredths, nothing being rounded:
+   Gives DONE with start, blocking and cutoff as they came, bend 100, and the least slope of 20, 30, .. 70 for which
+   100 x start + slope x (through - 100) is at least 44 x through (1.1 x 0.4 of it). The verdict is TRIP where the differential is
+   at or above the cutoff; otherwise BLOCKED where both sides are at or above blocking; otherwise TRIP where 100 x differential is
+   at or above the characteristic, and HOLD below it. The characteristic is 100 x start up to a restraint of 100, and
+   100 x start + slope x (restraint - 100) above it. The cutoff is not held against through.
+   Order: INPUT where an argument is out of its range, with the lowest such place: 1 start, 20 to 100; 2 blocking, 150 to 300;
+   3 cutoff, 650 to 1,200; 4 through, 100 to 2,000; 5 first, 6 second, 7 differential, 8 restraint, 0 to 10,000. Then SLOPE (place
+   0) where none of the six slopes fits. */
+SurfpocketDifferential surfpocket_differential(uint64_t start, uint64_t blocking, uint64_t cutoff, uint64_t through,
+                                               uint64_t first, uint64_t second, uint64_t differential, uint64_t restraint);
 
 /* From the text of a list to its printed card or refusal, at the front of out; bytes past what is written stay.
    DONE: the card was written, in so many bytes. ROOM (place and field 0): the list has a card, and out is too short for it; nothing

@@ -2,6 +2,9 @@
 use answers::NUMBERS;
 use calculate::whole_calculation;
 use change::replace;
+use differential::Given;
+use differential::Inputs;
+use differential::differential_card;
 use sheet::sheet;
 use study::Converted;
 use study::Quantity;
@@ -16,6 +19,7 @@ ghost use Rattle.sheet.specs.Sheet.{sheetOf, fitted, Filled};
 ghost use Rattle.calculate.specs.Whole.{whole};
 ghost use Rattle.calculate.specs.Ready.{Gave};
 ghost use Rattle.change.specs.Ready.{Gave as GaveBoth};
+ghost use Rattle.surfpocket.specs.Differentials.{handedCard, differentialFor};
 ghost use Rattle.surfpocket.specs.Studies.{unitOf, handed, studyOf};
 ghost use Rattle.surfpocket.specs.Version.{version};
 
@@ -37,13 +41,25 @@ pub struct SurfpocketStudy {
 }
 
 #[repr(C)]
+pub struct SurfpocketDifferential {
+    pub number: u64,
+    pub place: u64,
+    pub start: u64,
+    pub bend: u64,
+    pub slope: u64,
+    pub blocking: u64,
+    pub cutoff: u64,
+    pub verdict: u64,
+}
+
+#[repr(C)]
 pub struct SurfpocketPrinted {
     pub numbers: [u64; NUMBERS],
     pub bytes: usize,
 }
 
 // It grows with every change of what is lent or given.
-const VERSION: u64 = 3;
+const VERSION: u64 = 4;
 
 #[no_mangle]
 pub extern "C" fn surfpocket_version() -> u64
@@ -136,6 +152,47 @@ pub extern "C" fn surfpocket_study(
             quantity: l,
             rated: least_rated,
         },
+    }))
+}
+
+fn hand_on_card(g: Given) -> SurfpocketDifferential
+    ensures { λ a. ⌜ a ≡ handedCard g ⌝ }
+{
+    SurfpocketDifferential {
+        number: g.number,
+        place: g.place,
+        start: g.start,
+        bend: g.bend,
+        slope: g.slope,
+        blocking: g.blocking,
+        cutoff: g.cutoff,
+        verdict: g.verdict,
+    }
+}
+
+// The differential card and the verdict on a measured pair [02 §11].
+#[no_mangle]
+pub extern "C" fn surfpocket_differential(
+    start: u64,
+    blocking: u64,
+    cutoff: u64,
+    through: u64,
+    first: u64,
+    second: u64,
+    differential: u64,
+    restraint: u64,
+) -> SurfpocketDifferential
+    ensures { λ a. ⌜ a ≡ differentialFor start blocking cutoff through first second differential restraint ⌝ }
+{
+    hand_on_card(differential_card(Inputs {
+        start,
+        blocking,
+        cutoff,
+        through,
+        first,
+        second,
+        differential,
+        restraint,
     }))
 }
 
