@@ -1,13 +1,14 @@
-//! Answers in their three numbers [01 §4, 02 §2]: what they are called, when two
+//! Answers in their three numbers [01 §4, 02 §2, §11]: what they are called, when two
 //! agree, and which must turn up.
 
 use crate::boundary;
 use crate::run::{Item, Score};
 use second::answer::*;
+use second::differential::{BLOCKED, HOLD, TRIP};
 use second::row::Row;
 
-/// Every number but 0; 6 is retired.
-const REFUSALS: [(u64, &str); 12] = [
+/// Every number but 0; 6 is retired, and 14 and 15 are not given yet.
+const REFUSALS: [(u64, &str); 14] = [
     (TEXT, "TEXT"),
     (COUNT, "COUNT"),
     (ROOM, "ROOM"),
@@ -20,7 +21,11 @@ const REFUSALS: [(u64, &str); 12] = [
     (RANGE, "RANGE"),
     (OWN_ZONE, "OWN ZONE"),
     (BACKUP, "BACKUP"),
+    (INPUT, "INPUT"),
+    (SLOPE, "SLOPE"),
 ];
+
+pub const VERDICTS: [(u64, &str); 3] = [(TRIP, "TRIP"), (HOLD, "HOLD"), (BLOCKED, "BLOCKED")];
 
 /// The numbers whose third number names something.
 pub const NAMING: [u64; 2] = [FIELD, BACKUP];
@@ -52,12 +57,15 @@ pub fn label(item: Item) -> String {
     format!("{}{}", name_of(item.0), ["", " of a later fed row"][item.1 as usize])
 }
 
-/// The header has the same names and numbers.
+/// The header has the same names and numbers, of refusals and of verdicts.
 pub fn check_header(score: &mut Score) {
-    let header = boundary::defined("REFUSED_");
-    let named = header.iter().map(|(name, number)| (*number, name.replace('_', " ")));
-    let mut named: Vec<_> = named.collect();
-    named.sort();
-    let same = named.iter().map(|(number, name)| (*number, name.as_str())).eq(REFUSALS);
-    score.count(same, &format!("the header's refusals: {named:?}"));
+    for (start, ours) in [("REFUSED_", &REFUSALS[..]), ("VERDICT_", &VERDICTS)] {
+        let header = boundary::defined(start);
+        let named = header.iter().map(|(name, number)| (*number, name.replace('_', " ")));
+        let mut named: Vec<_> = named.collect();
+        named.sort();
+        let same =
+            named.iter().map(|(number, name)| (*number, name.as_str())).eq(ours.iter().copied());
+        score.count(same, &format!("the header's {start}: {named:?}"));
+    }
 }

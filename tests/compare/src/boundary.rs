@@ -1,6 +1,7 @@
 //! Safe functions over the C boundary, as include/surfpocket.h declares it.
 
 use second::answer::Answer;
+use second::differential::{DifferentialAnswer, Inputs};
 use second::study::{Current, StudyAnswer};
 use std::ptr;
 
@@ -21,6 +22,18 @@ struct SurfpocketStudy {
     greatest_upper: u64,
     least_lower: u64,
     least_upper: u64,
+}
+
+#[repr(C)]
+struct SurfpocketDifferential {
+    number: u64,
+    place: u64,
+    start: u64,
+    bend: u64,
+    slope: u64,
+    blocking: u64,
+    cutoff: u64,
+    verdict: u64,
 }
 
 #[repr(C)]
@@ -59,6 +72,17 @@ extern "C" {
         least: f32,
         least_rated: u64,
     ) -> SurfpocketStudy;
+
+    fn surfpocket_differential(
+        start: u64,
+        blocking: u64,
+        cutoff: u64,
+        through: u64,
+        first: u64,
+        second: u64,
+        differential: u64,
+        restraint: u64,
+    ) -> SurfpocketDifferential;
 
     fn surfpocket_card(
         text: *const u8,
@@ -138,6 +162,33 @@ pub fn study(greatest: Reading, least: Reading) -> StudyAnswer {
             upper: given.greatest_upper,
         },
         least: Current { used: given.least, lower: given.least_lower, upper: given.least_upper },
+    }
+}
+
+pub fn differential(inputs: &Inputs) -> DifferentialAnswer {
+    let [start, blocking, cutoff, through, first, second, differential, restraint] = *inputs;
+    // SAFETY: numbers only.
+    let given = unsafe {
+        surfpocket_differential(
+            start,
+            blocking,
+            cutoff,
+            through,
+            first,
+            second,
+            differential,
+            restraint,
+        )
+    };
+    DifferentialAnswer {
+        number: given.number,
+        place: given.place,
+        start: given.start,
+        bend: given.bend,
+        slope: given.slope,
+        blocking: given.blocking,
+        cutoff: given.cutoff,
+        verdict: given.verdict,
     }
 }
 

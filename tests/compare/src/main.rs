@@ -4,7 +4,9 @@
 
 use compare::run::{Score, Seen};
 use compare::singles::{self, Part};
-use compare::{answers, boundary, causes, changes, competing, lists, studies, texts};
+use compare::{
+    answers, boundary, causes, changes, competing, differentials, lists, studies, texts, verdicts,
+};
 use std::process::ExitCode;
 use std::time::{Instant, SystemTime, UNIX_EPOCH};
 
@@ -60,6 +62,7 @@ fn compare_all(seed: u64, Length { passes, all_singles }: Length) -> ExitCode {
     println!("seed {seed}");
     let (mut score, mut whole) = (Score::default(), Seen::default());
     let (mut study, mut text, mut change) = (Seen::default(), Seen::default(), Seen::default());
+    let mut differential = Seen::default();
     let [library, header] = boundary::versions();
     score.count(library == header, &format!("version {library}, the header's {header}"));
     answers::check_header(&mut score);
@@ -79,6 +82,9 @@ fn compare_all(seed: u64, Length { passes, all_singles }: Length) -> ExitCode {
     score.check_all(&competing::OF_REPLACEMENTS, &change);
     score.run(&studies::KINDS, seed, passes, &mut study);
     score.check_all(&studies::GROUPS, &study);
+    score.run(&differentials::KINDS, seed, passes, &mut differential);
+    score.check_all(&differentials::GROUPS, &differential);
+    score.check_all(&verdicts::GROUPS, &differential);
     score.run(&texts::KINDS, seed, passes, &mut text);
     score.run(&causes::TEXTS, seed, passes, &mut text);
     let line = format!("{} texts, {} accepted", text.compared, text.accepted);

@@ -1,4 +1,4 @@
-//! Numbers given back [01 §4], 6 retired for 11 to 13 [02 §2].
+//! Numbers given back [01 §4], 6 retired for 11 to 13 [02 §2]; 16 and 17 [02 §11].
 
 pub const DONE: u64 = 0;
 pub const TEXT: u64 = 1;
@@ -13,6 +13,8 @@ pub const EDIT: u64 = 10;
 pub const RANGE: u64 = 11;
 pub const OWN_ZONE: u64 = 12;
 pub const BACKUP: u64 = 13;
+pub const INPUT: u64 = 16;
+pub const SLOPE: u64 = 17;
 
 /// A number with its place. The third number is the field for FIELD and the fed
 /// row for BACKUP, otherwise 0.

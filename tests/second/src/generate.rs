@@ -2,6 +2,7 @@
 
 mod causes;
 mod damage;
+pub mod differentials;
 mod edges;
 mod lists;
 mod replacements;

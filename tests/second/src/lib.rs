@@ -1,9 +1,11 @@
-//! The second program: everything in sections 2 to 6 of document 01 worked out
-//! again from the document alone, plainly and slowly, for comparison.
+//! The second program: everything in sections 2 to 6 of document 01, and what
+//! document 02 adds, worked out again from the documents alone, plainly and
+//! slowly, for comparison.
 
 pub mod answer;
 pub mod brute;
 pub mod conditions;
+pub mod differential;
 pub mod fast;
 pub mod generate;
 pub mod replace;

@@ -68,27 +68,34 @@ fn print_card(names: &[&[u8]], list: &[u64]) -> Result<Vec<u8>, Answer> {
     Ok(printed)
 }
 
-fn print_refusal(refusal: Answer) -> Vec<u8> {
+pub(crate) fn print_refusal(refusal: Answer) -> Vec<u8> {
     let Answer { number, place, field } = refusal;
     format!("refused,place,field\r\n{number},{place},{field}\r\n").into_bytes()
 }
 
 /// Names and list of a well-formed text, however many its rows; otherwise TEXT.
 fn read(text: &[u8]) -> Result<(Vec<&[u8]>, Vec<u64>), Answer> {
+    let rows = read_lines(text, &header(), read_row)?;
+    let (names, numbers): (Vec<&[u8]>, Vec<[u64; FIELDS]>) = rows.into_iter().unzip();
+    Ok((names, numbers.concat()))
+}
+
+/// What each line after the header holds, however many there are; TEXT where the
+/// text is too long, or else at the first line that is bad.
+pub(crate) fn read_lines<'a, T>(
+    text: &'a [u8],
+    header: &str,
+    read_line: fn(&'a [u8]) -> Option<T>,
+) -> Result<Vec<T>, Answer> {
     if text.len() > MOST_BYTES {
         return Err(Answer::at(TEXT, 0));
     }
-    let (mut names, mut list) = (Vec::new(), Vec::new());
-    for (line, bytes) in (1..).zip(lines(text)) {
-        if line == 1 && bytes == header().as_bytes() {
-            continue;
-        }
-        let row = if line == 1 { None } else { read_row(bytes) };
-        let (name, numbers) = row.ok_or(Answer::at(TEXT, line))?;
-        names.push(name);
-        list.extend(numbers);
+    let lines = lines(text);
+    if lines[0] != header.as_bytes() {
+        return Err(Answer::at(TEXT, 1));
     }
-    Ok((names, list))
+    let read = |(line, bytes)| read_line(bytes).ok_or(Answer::at(TEXT, line));
+    (2..).zip(lines.into_iter().skip(1)).map(read).collect()
 }
 
 /// Lines end at CRLF; the last one may lack it. An empty text has one empty line.
@@ -106,14 +113,26 @@ fn lines(text: &[u8]) -> Vec<&[u8]> {
 }
 
 /// Name and numbers of one line, or nothing if the line is bad.
-fn read_row(line: &[u8]) -> Option<(&[u8], Vec<u64>)> {
+fn read_row(line: &[u8]) -> Option<(&[u8], [u64; FIELDS])> {
     let first_comma = line.iter().position(|&byte| byte == b',')?;
     let (place, rest) = (&line[..first_comma], &line[first_comma + 1..]);
     let length = name_length(rest)?;
     let (name, rest) = rest.split_at(length);
-    let others = rest.strip_prefix(b",")?.split(|&byte| byte == b',');
-    let numbers: Option<Vec<u64>> = std::iter::once(place).chain(others).map(number).collect();
-    numbers.filter(|numbers| numbers.len() == FIELDS).map(|numbers| (name, numbers))
+    let others = cells(rest.strip_prefix(b",")?);
+    Some((name, numbers(std::iter::once(place).chain(others))?))
+}
+
+/// What stands between commas.
+pub(crate) fn cells(line: &[u8]) -> impl Iterator<Item = &[u8]> {
+    line.split(|&byte| byte == b',')
+}
+
+/// So many numbers, or nothing where a cell holds none or there are more or fewer.
+pub(crate) fn numbers<'a, const N: usize>(
+    cells: impl Iterator<Item = &'a [u8]>,
+) -> Option<[u64; N]> {
+    let numbers: Option<Vec<u64>> = cells.map(number).collect();
+    numbers?.try_into().ok()
 }
 
 /// Length, as it stands, of the name that `rest` begins with.

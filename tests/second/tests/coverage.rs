@@ -2,6 +2,7 @@
 //! ordinary lists are accepted about half the time.
 
 use second::answer::*;
+use second::differential::{differential, BLOCKED, HOLD, SLOPES, TRIP};
 use second::generate::*;
 use second::replace::replace;
 use second::row::{CARD_NUMBERS, FIELDS};
@@ -97,6 +98,31 @@ fn studies_give_every_place() {
     }
     println!("studies by number and place: {seen:?}");
     assert_seen(&seen, &[10 * DONE, 10 * STUDY, 10 * STUDY + 1, 10 * STUDY + 2]);
+}
+
+/// Each kind of them; an accepted one by its slope and verdict.
+#[test]
+fn differentials_give_every_place_slope_and_verdict() {
+    let (mut places, mut given) = (Seen::new(), Seen::new());
+    for seed in 0..3_000 {
+        for inputs in [
+            differentials::in_range(seed),
+            differentials::about_settings(seed),
+            differentials::damaged(seed),
+        ] {
+            let answer = differential(&inputs);
+            count(&mut places, 10 * answer.number + answer.place);
+            if answer.number == DONE {
+                count(&mut given, 10 * answer.slope + answer.verdict);
+            }
+        }
+    }
+    println!("differentials by number and place: {places:?}, by slope and verdict: {given:?}");
+    let inputs = (1..=8).map(|place| 10 * INPUT + place);
+    let numbers: Vec<u64> = [10 * DONE].into_iter().chain(inputs).chain([10 * SLOPE]).collect();
+    assert_seen(&places, &numbers);
+    let verdicts = |slope: u64| [TRIP, HOLD, BLOCKED].map(|verdict| 10 * slope + verdict);
+    assert_seen(&given, &SLOPES.map(verdicts).concat());
 }
 
 /// The refusal number printed, 0 for a card.
