@@ -43,6 +43,8 @@ static const char *name_of(uint64_t number)
     case SURFPOCKET_REFUSED_RANGE: return "RANGE";
     case SURFPOCKET_REFUSED_OWN_ZONE: return "OWN ZONE";
     case SURFPOCKET_REFUSED_BACKUP: return "BACKUP";
+    case SURFPOCKET_REFUSED_INPUT: return "INPUT";
+    case SURFPOCKET_REFUSED_SLOPE: return "SLOPE";
     default: return "a number of a later version";
     }
 }
@@ -174,6 +176,38 @@ static void study(void)
     show_study("a negative least current", surfpocket_study(SURFPOCKET_UNIT_AMPERES, 0.5f, 0, SURFPOCKET_UNIT_AMPERES, -0.5f, 0));
 }
 
+static const char *verdict_of(uint64_t verdict)
+{
+    switch (verdict) {
+    case SURFPOCKET_VERDICT_TRIP: return "trip";
+    case SURFPOCKET_VERDICT_HOLD: return "hold";
+    case SURFPOCKET_VERDICT_BLOCKED: return "blocked";
+    default: return "none";
+    }
+}
+
+static void show_differential(const char *what, SurfpocketDifferential card)
+{
+    printf("  %-40s %s, place %" PRIu64 ", start %" PRIu64 ", bend %" PRIu64 ", slope %" PRIu64 ", blocking %" PRIu64 ", cutoff %" PRIu64
+           ", %s\n",
+           what, name_of(card.number), card.place, card.start, card.bend, card.slope, card.blocking, card.cutoff,
+           verdict_of(card.verdict));
+}
+
+/* hundredths: start 0.30, blocking 2.00 and cutoff 7.00, the greatest outside fault current 4.00; then what was measured */
+static void differential(void)
+{
+    puts("the differential card, and the verdict on a measured pair");
+    show_differential("normal load", surfpocket_differential(30, 200, 700, 400, 100, 98, 5, 99));
+    show_differential("at the characteristic, 1.80", surfpocket_differential(30, 200, 700, 400, 120, 150, 180, 400));
+    show_differential("a hundredth below it", surfpocket_differential(30, 200, 700, 400, 120, 150, 179, 400));
+    show_differential("both sides at blocking", surfpocket_differential(30, 200, 700, 400, 200, 200, 699, 200));
+    show_differential("the same, differential at the cutoff", surfpocket_differential(30, 200, 700, 400, 200, 200, 700, 200));
+    show_differential("start 0.19", surfpocket_differential(19, 200, 700, 400, 100, 98, 5, 99));
+    show_differential("blocking 3.01 and restraint 100.01", surfpocket_differential(30, 301, 700, 400, 100, 98, 5, 10001));
+    show_differential("an outside fault of 1.00", surfpocket_differential(30, 200, 700, 100, 100, 98, 5, 99));
+}
+
 /* the printed card or refusal of a text, without the CRs of its line ends */
 static void print(const char *what, const void *bytes, size_t length, size_t room)
 {
@@ -210,6 +244,7 @@ int main(void)
     whole();
     replace();
     study();
+    differential();
     card();
     return EXIT_SUCCESS;
 }

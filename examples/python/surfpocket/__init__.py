@@ -28,6 +28,10 @@ class Study(ctypes.Structure):
     _fields_ = members("number place greatest least greatest_lower greatest_upper least_lower least_upper")
 
 
+class Differential(ctypes.Structure):
+    _fields_ = members("number place start bend slope blocking cutoff verdict")
+
+
 def load():
     """The library, loaded from a shared object that is made of the archive."""
     with tempfile.TemporaryDirectory() as folder:
@@ -43,6 +47,8 @@ def load():
     library.surfpocket_replace.restype = Answer
     library.surfpocket_study.argtypes = [number, ctypes.c_float, number] * 2
     library.surfpocket_study.restype = Study
+    library.surfpocket_differential.argtypes = [number] * 8
+    library.surfpocket_differential.restype = Differential
     if library.surfpocket_version() != CONSTANT["VERSION"]:
         raise RuntimeError("the library is of another version than the header")
     return library
@@ -64,7 +70,12 @@ def print_card(card):
         print(start // COLUMNS + 1, *card[start : start + COLUMNS], sep=",")
 
 
+def name_of(kind, number):
+    """The header's name of a number: of a refusal, or of a verdict."""
+    return next(name.removeprefix(kind) for name, value in CONSTANT.items() if name.startswith(kind) and value == number)
+
+
 def print_refusal(answer):
-    name = next(name for name, value in CONSTANT.items() if name.startswith("REFUSED_") and value == answer.number)
+    name = "REFUSED_" + name_of("REFUSED_", answer.number)
     third = "fed row" if answer.number == CONSTANT["REFUSED_BACKUP"] else "field"
     print(f"{name}, place {answer.place}, {third} {answer.field}")
