@@ -2,6 +2,7 @@
 //! lists and buffers, rounds of each in turn, the median round.
 
 mod changes;
+mod differentials;
 
 use compare::boundary;
 use second::answer::Answer;
@@ -35,6 +36,7 @@ struct Size {
 fn main() {
     whole_calculations();
     changes::replacements();
+    differentials::pairs();
 }
 
 fn whole_calculations() {
