@@ -6,14 +6,11 @@ use console::say;
 use console::write_output;
 use diffsheet::DIFF_MOST;
 use diffsheet::diffsheet;
-use text::TEXT_MOST;
+use text::TEXT_ROOM;
 ghost use Prim.Native.Nat.{_≤_};
 ghost use lib.ListN.{length, take};
 ghost use Rattle.print.specs.Card.{Printed};
 ghost use Rattle.diffsheet.specs.Sheet.{diffMost, diffOf};
-
-// One byte more than a text may have, so that a longer one is seen to be longer.
-const TEXT_ROOM: usize = TEXT_MOST + 1;
 
 // What was read is the text, and what is printed for it stands at the start of the buffer.
 fn print_read(text: &[u8], size: usize, out: &mut [u8]) -> usize

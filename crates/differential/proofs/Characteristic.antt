@@ -12,7 +12,8 @@ use Rattle.differential.specs.declared.Verdict.the-variants.{Trip}
 use Rattle.differential.specs.Verdict.{bend, characteristic}
 use Rattle.differential.specs.Given.{differentialOf}
 use Rattle.differential.specs.Inputs.{inputsOf}
-use Rattle.differential.specs.Gets.{InRange, LeastFits, VerdictIs, Numbered, Gets, eight, withDifferential}
+use Rattle.differential.specs.Gets.{RightAt, InRange, LeastFits, VerdictIs, Numbered, Gets, eight, withDifferential}
+use Rattle.differential.proofs.InputLaws.{start-range, cutoff-range, through-range}
 use Rattle.differential.proofs.SlopeLaws.{above-one}
 use Rattle.differential.proofs.VerdictLaws.{up-to-bend, above-bend, reaches-exactly}
 use Rattle.differential.proofs.Demand1.{slope-is-least, done-exactly, differential-exactly, trip-known}
@@ -48,7 +49,7 @@ module _ (start slope : ℕ) where
 
 -- With the slope given, the greatest outside fault's error current, 1.1 × 0.4 × through, does not exceed the characteristic at that restraint.
 error-below : (x : Inputs) (slope : ℕ) → InRange x → LeastFits x slope → 11 * 4 * x .through ≤ characteristic (x .start) slope (x .through)
-error-below x slope r l = omega (arith, l .fits, one-line (x .start) slope (x .through), above-one slope (x .through) (r .through-from))
+error-below x slope r l = omega (arith, l .fits, one-line (x .start) slope (x .through), above-one slope (x .through) (through-range x r .0))
 
 pub outside-fault-below :
     (x : Inputs) → differentialOf x .number ≡ 0 → 11 * 4 * x .through ≤ characteristic (x .start) (differentialOf x .slope) (x .through)
@@ -80,6 +81,16 @@ trips-above {x} {slope} d h (VerdictIs.reaches c n r) =
     (λ (g : x .cutoff ≤ d). VerdictIs.at-cutoff g)
     (lt-or-le d (x .cutoff))
 
+raised : {x : Inputs} {place : ℕ} (d : ℕ) → d ≤ 10000 → RightAt x place → RightAt (withDifferential x d) place
+raised d m (RightAt.start a b) = RightAt.start a b
+raised d m (RightAt.blocking a b) = RightAt.blocking a b
+raised d m (RightAt.cutoff a b) = RightAt.cutoff a b
+raised d m (RightAt.through a b) = RightAt.through a b
+raised d m (RightAt.first b) = RightAt.first b
+raised d m (RightAt.second b) = RightAt.second b
+raised d m (RightAt.differential b) = RightAt.differential m
+raised d m (RightAt.restraint b) = RightAt.restraint b
+
 pub trip-stays :
     (x : Inputs) (d : ℕ) → x .differential ≤ d → d ≤ 10000 → differentialOf x .verdict ≡ 1 → differentialOf (withDifferential x d) .verdict ≡ 1
 trip-stays x d h m e = let t = trip-known x e in given (t .0) (t .1) (t .2) (t .3)
@@ -88,21 +99,7 @@ trip-stays x d h m e = let t = trip-known x e in given (t .0) (t .1) (t .2) (t .
     given slope r l i =
         ap (λ (g : Given). g .verdict)
         (differential-exactly (withDifferential x d) (eight 0 0 (x .start) 100 slope (x .blocking) (x .cutoff) 1) .1
-        (Gets.done slope
-        (record {
-          start-from = r .start-from;
-          start-to = r .start-to;
-          blocking-from = r .blocking-from;
-          blocking-to = r .blocking-to;
-          cutoff-from = r .cutoff-from;
-          cutoff-to = r .cutoff-to;
-          through-from = r .through-from;
-          through-to = r .through-to;
-          first-to = r .first-to;
-          second-to = r .second-to;
-          differential-to = m;
-          restraint-to = r .restraint-to;
-        })
+        (Gets.done slope (λ place a b. raised d m (r place a b))
         (record { offered = l .offered; fits = l .fits; no-lesser = l .no-lesser }) (trips-above d h i) Numbered.trip))
 
 -- what is raised is the differential, and nothing else
@@ -116,7 +113,7 @@ pub below-start-no-trip : (x : Inputs) → x .differential < x .start → differ
 below-start-no-trip x h e = let t = trip-known x e in no-trip (t .1) (t .3)
   where
     no-trip : {slope : ℕ} → InRange x → VerdictIs x slope Trip → ⊥
-    no-trip r (VerdictIs.at-cutoff c) = omega (arith, r .start-to, r .cutoff-from)
+    no-trip r (VerdictIs.at-cutoff c) = omega (arith, start-range x r .1, cutoff-range x r .0)
     no-trip {slope} r (VerdictIs.reaches c n f) =
         ⊎-elim
         (λ (g : 100 < x .restraint). omega (arith, f .above-bend g, above-one slope (x .restraint) (omega arith)))

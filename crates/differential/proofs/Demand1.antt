@@ -7,7 +7,6 @@ use native.Mathlib.Omega.{arith}
 use Rattle.answers.specs.declared.Answer.the-variants.{Input, Slope}
 use Rattle.fold.specs.declared.Found.{Found}
 use Rattle.fold.specs.declared.Found.the-variants.{At, Nothing}
-use Rattle.fold.proofs.BoolLaws.{zero-not-one}
 use Rattle.differential.specs.declared.Given.{Given}
 use Rattle.differential.specs.declared.Inputs.{Inputs}
 use Rattle.differential.specs.declared.Verdict.{Verdict}
@@ -18,7 +17,7 @@ use Rattle.differential.specs.Verdict.{verdictOf, verdictNumber}
 use Rattle.differential.specs.Given.{refusedWith, doneWith, differentialOf}
 use Rattle.differential.specs.Gets.{InRange, LowestOutside, Offered, Fits, LeastFits, VerdictIs, Numbered, eight, Gets}
 use Rattle.differential.proofs.GivenLaws.{input-refused, slope-refused, slope-done}
-use Rattle.differential.proofs.InputLaws.{none-outside, found-lowest, lowest-found}
+use Rattle.differential.proofs.InputLaws.{through-range, none-outside, found-lowest, lowest-found}
 use Rattle.differential.proofs.SlopeLaws.{least-exactly, none-exactly}
 use Rattle.differential.proofs.VerdictLaws.{verdict-is, is-verdict}
 
@@ -40,10 +39,10 @@ module _ (x : Inputs) where
       by-slope : InRange x → firstOutside x ≡ Nothing → (f : Found) → leastSlope (x .start) (x .through) ≡ f → Gets x (differentialOf x)
       by-slope r e (At slope) d =
           let g : Gets x (doneWith x slope) =
-          Gets.done slope r (least-exactly x (r .through-from) slope .0 d) (is-verdict x slope) (numbered (verdictOf x slope)) in
+          Gets.done slope r (least-exactly x (through-range x r .0) slope .0 d) (is-verdict x slope) (numbered (verdictOf x slope)) in
           subst (Gets x) (slope-done x slope e d) g
       by-slope r e Nothing d =
-          let g : Gets x (refusedWith Slope) = Gets.SLOPE r (none-exactly x (r .through-from) .0 d) in
+          let g : Gets x (refusedWith Slope) = Gets.SLOPE r (none-exactly x (through-range x r .0) .0 d) in
           subst (Gets x) (slope-refused x e d) g
 
       by-input : (f : Found) → firstOutside x ≡ f → Gets x (differentialOf x)
@@ -54,15 +53,15 @@ module _ (x : Inputs) where
 
   got : {g : Given} → Gets x g → differentialOf x ≡ g
   got (Gets.done slope r l i n) =
-      sym (slope-done x slope (none-outside x .1 r) (least-exactly x (r .through-from) slope .1 l))
+      sym (slope-done x slope (none-outside x .1 r) (least-exactly x (through-range x r .0) slope .1 l))
       ∙ ap (λ (m : ℕ). eight 0 0 (x .start) 100 slope (x .blocking) (x .cutoff) m) (sym (ap verdictNumber (verdict-is x slope i)) ∙ number-is n)
   got (Gets.INPUT place l) =
       sym (input-refused x (place - 1) (lowest-found x place l))
       ∙ ap (λ (p : ℕ). eight 16 p 0 0 0 0 0 0) (let s : place - 1 + 1 ≡ place = omega (arith, l .from) in s)
-  got (Gets.SLOPE r n) = sym (slope-refused x (none-outside x .1 r) (none-exactly x (r .through-from) .1 n))
+  got (Gets.SLOPE r n) = sym (slope-refused x (none-outside x .1 r) (none-exactly x (through-range x r .0) .1 n))
 
   never-both : (place : ℕ) → LowestOutside x place → InRange x → ⊥
-  never-both place l q = let e : At (place - 1) ≡ Nothing = sym (lowest-found x place l) ∙ none-outside x .1 q in zero-not-one cc
+  never-both place l q = l .outside (q place (l .from) (l .to))
 
   -- the whole answer
   pub differential-exactly : (g : Given) → (differentialOf x ≡ g) ↔ Gets x g
@@ -80,10 +79,10 @@ module _ (x : Inputs) where
       of (Gets.SLOPE r n) z = absurd (omega arith)
 
   -- it is given exactly when one fits
-  pub done-exactly : (differentialOf x .number ≡ 0) ↔ (InRange x × ((s : ℕ) × Offered s × Fits x s))
+  pub done-exactly : (differentialOf x .number ≡ 0) ↔ (InRange x × ((slope : ℕ) × Offered slope × Fits x slope))
   done-exactly = (λ z. of gets z, λ h. to gets (h .0) (h .1 .0) (h .1 .1) (h .1 .2))
     where
-      of : {g : Given} → Gets x g → g .number ≡ 0 → InRange x × ((s : ℕ) × Offered s × Fits x s)
+      of : {g : Given} → Gets x g → g .number ≡ 0 → InRange x × ((slope : ℕ) × Offered slope × Fits x slope)
       of (Gets.done slope r l i n) z = (r, (slope, l .offered, l .fits))
       of (Gets.INPUT place l) z = absurd (omega arith)
       of (Gets.SLOPE r n) z = absurd (omega arith)
@@ -93,10 +92,10 @@ module _ (x : Inputs) where
       to (Gets.INPUT place l) q s o f = absurd (never-both place l q)
       to (Gets.SLOPE r n) q s o f = absurd (n s o f)
 
-  pub SLOPE-exactly : (differentialOf x ≡ eight 17 0 0 0 0 0 0 0) ↔ (InRange x × ((s : ℕ) → Offered s → Fits x s → ⊥))
+  pub SLOPE-exactly : (differentialOf x ≡ eight 17 0 0 0 0 0 0 0) ↔ (InRange x × ((slope : ℕ) → Offered slope → Fits x slope → ⊥))
   SLOPE-exactly = (λ e. of gets (ap (λ (g : Given). g .number) e), λ h. got (Gets.SLOPE (h .0) (h .1)))
     where
-      of : {g : Given} → Gets x g → g .number ≡ 17 → InRange x × ((s : ℕ) → Offered s → Fits x s → ⊥)
+      of : {g : Given} → Gets x g → g .number ≡ 17 → InRange x × ((slope : ℕ) → Offered slope → Fits x slope → ⊥)
       of (Gets.done slope r l i n) z = absurd (omega arith)
       of (Gets.INPUT place l) z = absurd (omega arith)
       of (Gets.SLOPE r n) z = (r, n)

@@ -56,42 +56,32 @@ module _ (x : Inputs) where
     λ r. right-within r,
   )
 
-  -- all inputs in their ranges, by place and by name
-  all-right : ((k : ℕ) → k < inputCount → InTable k) ↔ InRange x
-  all-right = (
-    λ w. record {
-      start-from = w 0 (omega arith) .0;
-      start-to = w 0 (omega arith) .1;
-      blocking-from = w 1 (omega arith) .0;
-      blocking-to = w 1 (omega arith) .1;
-      cutoff-from = w 2 (omega arith) .0;
-      cutoff-to = w 2 (omega arith) .1;
-      through-from = w 3 (omega arith) .0;
-      through-to = w 3 (omega arith) .1;
-      first-to = w 4 (omega arith) .1;
-      second-to = w 5 (omega arith) .1;
-      differential-to = w 6 (omega arith) .1;
-      restraint-to = w 7 (omega arith) .1;
-    },
-    λ r k h. by-place r k h,
-  )
-    where
-      by-place : InRange x → (k : ℕ) → k < inputCount → InTable k
-      by-place r zero h = (r .start-from, r .start-to)
-      by-place r (suc zero) h = (r .blocking-from, r .blocking-to)
-      by-place r (suc (suc zero)) h = (r .cutoff-from, r .cutoff-to)
-      by-place r (suc (suc (suc zero))) h = (r .through-from, r .through-to)
-      by-place r (suc (suc (suc (suc zero)))) h = (omega arith, r .first-to)
-      by-place r (suc (suc (suc (suc (suc zero))))) h = (omega arith, r .second-to)
-      by-place r (suc (suc (suc (suc (suc (suc zero)))))) h = (omega arith, r .differential-to)
-      by-place r (suc (suc (suc (suc (suc (suc (suc zero))))))) h = (omega arith, r .restraint-to)
-      by-place r (suc (suc (suc (suc (suc (suc (suc (suc k)))))))) h = absurd (omega arith)
+  -- the ranges that are asked for, by name
+  module _ (r : InRange x) where
+    pub start-range : (20 ≤ x .start) × (x .start ≤ 100)
+    start-range = right-within (r 1 (omega arith) (omega arith))
+
+    pub cutoff-range : (650 ≤ x .cutoff) × (x .cutoff ≤ 1200)
+    cutoff-range = right-within (r 3 (omega arith) (omega arith))
+
+    pub through-range : (100 ≤ x .through) × (x .through ≤ 2000)
+    through-range = right-within (r 4 (omega arith) (omega arith))
+
+    pub differential-to : x .differential ≤ 10000
+    differential-to = right-within (r 7 (omega arith) (omega arith)) .1
+
+    pub restraint-to : x .restraint ≤ 10000
+    restraint-to = right-within (r 8 (omega arith) (omega arith)) .1
 
   -- no input is out of its range exactly where all are in theirs
   pub none-outside : (firstOutside x ≡ Nothing) ↔ InRange x
   none-outside = (
-    λ e. all-right .0 (λ k h. inside-within k (first-nothing (outside ranges (valuesOf x)) inputCount 0 e k (omega arith) (omega arith))),
-    λ r. first-none (outside ranges (valuesOf x)) inputCount 0 (λ k a b. within-inside k (all-right .1 r k (omega arith))),
+    λ e place a b.
+        at-place place a b .0
+        (inside-within (place - 1) (first-nothing (outside ranges (valuesOf x)) inputCount 0 e (place - 1) (omega arith) (omega arith))),
+    λ r.
+        first-none (outside ranges (valuesOf x)) inputCount 0
+        (λ k a b. let s : k + 1 - 1 ≡ k = omega arith in within-inside k (subst InTable s (right-within (r (k + 1) (omega arith) (omega arith))))),
   )
 
   -- the first that is found is the lowest place

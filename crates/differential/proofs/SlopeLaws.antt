@@ -87,7 +87,7 @@ module _ (x : Inputs) (above : 100 ≤ x .through) where
         }),
   )
 
-  pub none-exactly : (leastSlope (x .start) (x .through) ≡ Nothing) ↔ ((s : ℕ) → Offered s → Fits x s → ⊥)
+  pub none-exactly : (leastSlope (x .start) (x .through) ≡ Nothing) ↔ ((slope : ℕ) → Offered slope → Fits x slope → ⊥)
   unfolding leastSlope
   none-exactly = (
     λ e s o f. not-both (fits-exactly s .1 f) (leastOn-nothing slopeFrom slopeTo slopeStep (omega arith) (slopeFits (x .start) (x .through)) e s o),

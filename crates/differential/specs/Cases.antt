@@ -45,6 +45,9 @@ table =
     ∷ slopeIs 50 250 40 ∷ slopeIs 50 251 50
     -- at the bend the slope does not count: the start alone, 0.44
     ∷ slopeIs 44 100 20 ∷ noSlope 43 100
+    -- without a slope there is no card, so that nothing trips and nothing is blocked
+    ∷ case (inputsOf 43 200 700 100 0 0 700 0) (eight 17 0 0 0 0 0 0 0)
+    ∷ case (inputsOf 43 200 700 100 200 200 0 0) (eight 17 0 0 0 0 0 0 0)
     -- the greatest start and outside fault current
     ∷ slopeIs 100 100 20 ∷ slopeIs 100 2000 50 ∷ slopeIs 20 2000 50
     -- the cutoff, whatever the sides and the restraint; below it 0.3 + 0.5 × 13.38 = 6.99

@@ -20,19 +20,8 @@ pub data RightAt (x : Inputs) : ℕ → Type 0 where
   restraint : x .restraint ≤ 10000 → RightAt x 8
 
 -- all are
-pub record InRange (x : Inputs) : Type 0 where
-  pub start-from : 20 ≤ x .start
-  pub start-to : x .start ≤ 100
-  pub blocking-from : 150 ≤ x .blocking
-  pub blocking-to : x .blocking ≤ 300
-  pub cutoff-from : 650 ≤ x .cutoff
-  pub cutoff-to : x .cutoff ≤ 1200
-  pub through-from : 100 ≤ x .through
-  pub through-to : x .through ≤ 2000
-  pub first-to : x .first ≤ 10000
-  pub second-to : x .second ≤ 10000
-  pub differential-to : x .differential ≤ 10000
-  pub restraint-to : x .restraint ≤ 10000
+abbrev pub InRange : Inputs → Type 0
+InRange x = (place : ℕ) → 1 ≤ place → place ≤ 8 → RightAt x place
 
 -- "16 INPUT (place, lowest first ..)": the lowest place of an input that is out of its range
 pub record LowestOutside (x : Inputs) (place : ℕ) : Type 0 where
@@ -54,7 +43,7 @@ Fits x slope = 110 * 40 * x .through + 100 * 100 * slope ≤ 100 * 100 * x .star
 pub record LeastFits (x : Inputs) (slope : ℕ) : Type 0 where
   pub offered : Offered slope
   pub fits : Fits x slope
-  pub no-lesser : (s : ℕ) → Offered s → Fits x s → slope ≤ s
+  pub no-lesser : (other : ℕ) → Offered other → Fits x other → slope ≤ other
 
 -- "both sides are at or above blocking"
 pub record BothBlock (x : Inputs) : Type 0 where
@@ -89,7 +78,7 @@ pub data Gets (x : Inputs) : Given → Type 0 where
       (slope : ℕ) {v : Verdict} {n : ℕ} → InRange x → LeastFits x slope → VerdictIs x slope v → Numbered v n →
       Gets x (eight 0 0 (x .start) 100 slope (x .blocking) (x .cutoff) n)
   INPUT : (place : ℕ) → LowestOutside x place → Gets x (eight 16 place 0 0 0 0 0 0)
-  SLOPE : InRange x → ((s : ℕ) → Offered s → Fits x s → ⊥) → Gets x (eight 17 0 0 0 0 0 0 0)
+  SLOPE : InRange x → ((slope : ℕ) → Offered slope → Fits x slope → ⊥) → Gets x (eight 17 0 0 0 0 0 0 0)
 
 -- the same inputs with another differential
 abbrev pub withDifferential : Inputs → ℕ → Inputs

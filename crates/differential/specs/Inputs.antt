@@ -9,6 +9,10 @@ use Rattle.fold.specs.First.{first}
 use Rattle.layout.specs.Fields.{inBounds}
 use Rattle.differential.specs.declared.Inputs.{Inputs}
 
+-- 1, the rated current
+abbrev pub one : ℕ
+one = 100
+
 abbrev pub inputCount : ℕ
 inputCount = 8
 

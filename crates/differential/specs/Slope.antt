@@ -1,18 +1,19 @@
--- [02 §11] The slope. Start, slope and through are whole hundredths, so 1 is 100, and a product of two of them is in hundredths of a
--- hundredth: there both sides of the request's inequality are compared, and nothing is rounded. Definitions only.
+-- [02 §11] The slope. Start, slope and through are whole hundredths, and a product of two of them is in hundredths of a hundredth: there both
+-- sides of the request's inequality are compared, and nothing is rounded. Definitions only.
 use mathlib.Core.Bool.{Bool}
 use Prim.Native.Nat.{ℕ, _+_, _-_, _*_}
 use lib.Dec.{leb}
 use Rattle.fold.specs.declared.Found.{Found}
 use Rattle.grid.specs.Grid.{leastOn}
+use Rattle.differential.specs.Inputs.{one}
 
--- "1.1 × 0.4 × through"
+-- "1.1 × 0.4 × through": tenths times tenths are hundredths
 abbrev pub errorOf : ℕ → ℕ
 errorOf through = 11 * 4 * through
 
 -- "start + slope × (through − 1) is at least" that
 unfoldable pub slopeFits : ℕ → ℕ → ℕ → Bool
-slopeFits start through slope = leb (errorOf through) (100 * start + slope * (through - 100))
+slopeFits start through slope = leb (errorOf through) (100 * start + slope * (through - one))
 
 -- "0.2, 0.3, .. 0.7"
 abbrev pub slopeFrom : ℕ

@@ -5,14 +5,15 @@ use lib.Dec.{leb}
 use Rattle.differential.specs.declared.Inputs.{Inputs}
 use Rattle.differential.specs.declared.Verdict.{Verdict}
 use Rattle.differential.specs.declared.Verdict.the-variants.{Trip, Hold, Blocked}
+use Rattle.differential.specs.Inputs.{one}
 
 -- "the bend 1.0"
 abbrev pub bend : ℕ
-bend = 100
+bend = one
 
 -- "the start up to the bend and start + slope × (restraint − 1) above it", in hundredths of a hundredth
 unfoldable pub characteristic : ℕ → ℕ → ℕ → ℕ
-characteristic start slope restraint = cond (leb restraint bend) (100 * start) (100 * start + slope * (restraint - bend))
+characteristic start slope restraint = cond (leb restraint bend) (100 * start) (100 * start + slope * (restraint - one))
 
 -- "both sides are at or above blocking"
 unfoldable pub bothBlock : Inputs → Bool

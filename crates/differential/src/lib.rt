@@ -75,8 +75,10 @@ const SLOPE_TO: u64 = 70;
 
 const SLOPE_STEP: u64 = 10;
 
-// The restraint of 1.0 up to which the characteristic is the start.
-const BEND: u64 = 100;
+// 1, the rated current; and the restraint up to which the characteristic is the start.
+const ONE: u64 = 100;
+
+const BEND: u64 = ONE;
 
 // The first input that is out of its range, from 0.
 fn first_outside(x: Inputs) -> Found
@@ -103,8 +105,8 @@ fn first_outside(x: Inputs) -> Found
     Found::Nothing
 }
 
-// The least slope that fits: what is wanted beyond the start, over what the outside fault current has above 1, rounded up. 1 is
-// the bend.
+// The least slope that fits. What is wanted beyond the start, over what the outside fault current has above 1, rounded up, is the
+// least that would do; the relay offers the next one at or above it.
 fn least_slope(start: u64, through: u64) -> Found
     requires { ⌜ (start ≤ 100) × (100 ≤ through) × (through ≤ 2000) ⌝ }
     ensures { λ f. ⌜ f ≡ leastSlope start through ⌝ }
@@ -114,14 +116,14 @@ fn least_slope(start: u64, through: u64) -> Found
     if wanted <= begun {
         return least_on(SLOPE_FROM, SLOPE_TO, SLOPE_STEP, 0);
     }
-    if through == BEND {
+    if through == ONE {
         return Found::Nothing;
     }
     least_on(
         SLOPE_FROM,
         SLOPE_TO,
         SLOPE_STEP,
-        ceil_div(wanted - begun, through - BEND),
+        ceil_div(wanted - begun, through - ONE),
     )
 }
 
@@ -133,7 +135,7 @@ fn characteristic_at(start: u64, slope: u64, restraint: u64) -> u64
     if restraint <= BEND {
         return 100 * start;
     }
-    100 * start + slope * (restraint - BEND)
+    100 * start + slope * (restraint - ONE)
 }
 
 // Both sides are at or above blocking.

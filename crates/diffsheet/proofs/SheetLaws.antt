@@ -25,7 +25,7 @@ use Rattle.print.specs.Write.{Wrote}
 use Rattle.print.proofs.PrintLaws.{wrote-printed, nothing-printed}
 use Rattle.print.proofs.WriteLaws.{wrote-then}
 use Rattle.diffsheet.specs.Lines.{inputHeader, inputLayout, inputColumns, reading, InputsTaken}
-use Rattle.diffsheet.specs.Sheet.{outputHeader, outputSize, linesOf, linesFrom, diffBy, diffOf, linesMost, lineMost, diffMost, diffPrinted}
+use Rattle.diffsheet.specs.Sheet.{inputSize, outputHeader, outputSize, linesOf, linesFrom, diffBy, diffOf, linesMost, lineMost, diffMost, diffPrinted}
 use Rattle.diffsheet.proofs.LinesLaws.{lines-short, lines-of-rows}
 
 -- ---- the two headers
@@ -34,7 +34,7 @@ pub header-one-line : NoCrlf inputHeader
 unfolding inputHeader spelt
 header-one-line = no-cr-no-crlf inputHeader (all-test noCr inputHeader refl)
 
-header-long : length inputHeader ≡ 75
+header-long : length inputHeader ≡ inputSize
 unfolding inputHeader spelt
 header-long = refl
 

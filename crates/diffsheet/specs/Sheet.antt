@@ -67,13 +67,19 @@ diffBy s (Rows n) = outputHeader ++ linesOf (rowsAs inputColumns s)
 unfoldable pub diffOf : List ℕ → List ℕ
 diffOf s = diffBy s (reading s)
 
--- the bytes of the printed header; the most lines of a text, behind its own header of 75 bytes 17 bytes each; and the most bytes of a printed line and
--- of all that is printed
-abbrev pub outputSize : ℕ
-outputSize = 55
+-- the bytes of the text's own header; of a line of it at least: a digit for each input, commas between them, CRLF; and so the most lines of a text
+abbrev pub inputSize : ℕ
+inputSize = 75
+
+abbrev pub inputLeast : ℕ
+inputLeast = 2 * inputCount + 1
 
 abbrev pub linesMost : ℕ
-linesMost = (textMost - 75) / 17
+linesMost = (textMost - inputSize) / inputLeast
+
+-- the bytes of the printed header, and the most of a printed line and of all that is printed
+abbrev pub outputSize : ℕ
+outputSize = 55
 
 abbrev pub lineMost : ℕ
 lineMost = numbersLineMost givenCount

@@ -26,8 +26,12 @@ ghost use Rattle.print.specs.Write.{Wrote};
 ghost use Rattle.diffsheet.specs.Lines.{InputsTaken};
 ghost use Rattle.diffsheet.specs.Sheet.{lineMost, outputHeader, outputSize, inputsAt, lineGiven, linesFrom, diffPrinted};
 
-// Room for the lines of the longest text: behind its header each line takes 8 digits, 7 commas and CRLF at least.
-const LINES: usize = (TEXT_MOST - 75) / 17;
+// The bytes of the text's header, of a line of it at least (a digit for each input, commas between them, CRLF), and so the most lines.
+const INPUT_HEADER: usize = 75;
+
+const INPUT_LEAST: usize = 2 * INPUTS + 1;
+
+const LINES: usize = (TEXT_MOST - INPUT_HEADER) / INPUT_LEAST;
 
 // The numbers given for a line, and the bytes of its printed line at most.
 const GIVEN: usize = 8;

@@ -39,6 +39,9 @@ pub enum Reading {
 // A text has at most so many bytes.
 pub const TEXT_MOST: usize = 65536;
 
+// Room to read one into: a byte more, so that a longer one is seen to be longer.
+pub const TEXT_ROOM: usize = TEXT_MOST + 1;
+
 // The lines from a cursor on, a row in each.
 pub fn read_rows(
     text: &[u8],

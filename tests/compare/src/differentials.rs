@@ -3,7 +3,7 @@
 use crate::answers::name_of;
 use crate::boundary;
 use crate::run::{Found, Group, Kind, Seen};
-use crate::verdicts::{note_slope, note_verdict};
+use crate::verdicts::{note_no_slope, note_slope, note_verdict};
 use second::answer::{DONE, INPUT, SLOPE};
 use second::differential::*;
 use second::generate::differentials::*;
@@ -69,6 +69,9 @@ fn same(inputs: &Inputs, seen: &mut Seen) -> Result<DifferentialAnswer, String> 
     let given = (answer.number == DONE).then_some(answer.slope);
     if answer.number != INPUT {
         note_slope(inputs[0], inputs[3], given, seen);
+    }
+    if answer.number == SLOPE {
+        note_no_slope(inputs, seen);
     }
     if let Some(slope) = given {
         seen.accepted += 1;

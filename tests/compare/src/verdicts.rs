@@ -60,8 +60,26 @@ pub const CHARACTERISTIC_EDGES: Group = Group {
     },
 };
 
-pub const GROUPS: [Group; 6] =
-    [SLOPES_GIVEN, SLOPE_EDGES, DECIDED, CUTOFF_EDGES, BLOCKING_EDGES, CHARACTERISTIC_EDGES];
+/// SLOPE comes whatever was measured: at the cutoff, with both sides at blocking,
+/// or neither.
+pub const NO_SLOPE: Group = Group {
+    name: "SLOPE by what was measured",
+    wanted: || each(&[CUTOFF, BLOCKING, NEITHER], &[0]),
+    label: |item| {
+        let what = ["at the cutoff", "both sides at blocking", "neither"];
+        format!("{}:", what[item.0 as usize])
+    },
+};
+
+pub const GROUPS: [Group; 7] = [
+    SLOPES_GIVEN,
+    SLOPE_EDGES,
+    DECIDED,
+    CUTOFF_EDGES,
+    BLOCKING_EDGES,
+    CHARACTERISTIC_EDGES,
+    NO_SLOPE,
+];
 
 const BELOW: u64 = 0;
 const AT: u64 = 1;
@@ -73,6 +91,7 @@ const CUTOFF: u64 = 0;
 const BLOCKING: u64 = 1;
 const REACHED: u64 = 2;
 const NOT_REACHED: u64 = 3;
+const NEITHER: u64 = 2;
 
 fn side_name(side: u64) -> &'static str {
     ["below", "at", "above"][side as usize]
@@ -113,6 +132,19 @@ pub fn note_slope(start: u64, through: u64, given: Option<u64>, seen: &mut Seen)
     if let Some(slope) = given {
         seen.note(&SLOPES_GIVEN, (slope, 0));
     }
+}
+
+/// For inputs without a slope.
+pub fn note_no_slope(inputs: &Inputs, seen: &mut Seen) {
+    let [_, blocking, cutoff, _, first, second, differential, _] = *inputs;
+    let measured = if differential >= cutoff {
+        CUTOFF
+    } else if first >= blocking && second >= blocking {
+        BLOCKING
+    } else {
+        NEITHER
+    };
+    seen.note(&NO_SLOPE, (measured, 0));
 }
 
 /// For inputs with that slope.

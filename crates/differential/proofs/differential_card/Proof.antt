@@ -2,7 +2,7 @@
 use mathlib.Core.Path.{sym, _∙_}
 use Rattle.fold.proofs.FirstLaws.{first-below}
 use Rattle.differential.proofs.GivenLaws.{input-refused, slope-refused, slope-done}
-use Rattle.differential.proofs.InputLaws.{none-outside}
+use Rattle.differential.proofs.InputLaws.{start-range, through-range, none-outside}
 use Rattle.differential.proofs.SlopeLaws.{slope-to}
 use native.Mathlib.Omega.{arith}
 use borrow.Author.Needs.{needs}
@@ -35,7 +35,7 @@ enum-told c = search needs
 least-slope-requires : tie.Need-least-slope-requires
 least-slope-requires c κs =
     let r = none-outside _ .0 (sym (c .before .before .first-outside .ensures) ∙ c .enum-told .given .1) in
-    (r .start-to, r .through-from, r .through-to)
+    (start-range _ r .1, through-range _ r .0, through-range _ r .1)
 
 enum-known-slope : tie.Need-enum-known-slope
 enum-known-slope c = search needs

@@ -1,5 +1,6 @@
 -- `differential::judge` meets its contract: each return is a way to a verdict.
 use mathlib.Core.Path.{sym, _∙_}
+use Rattle.differential.proofs.InputLaws.{start-range, differential-to, restraint-to}
 use Rattle.differential.proofs.VerdictLaws.{trips-at-cutoff, is-blocked, trips, holds}
 use native.Mathlib.Omega.{arith}
 use borrow.Author.Needs.{needs}
@@ -17,10 +18,14 @@ returns-2 c =
     is-blocked _ _ (c .before .before .if1 .left) (sym (c .before .both-block .ensures) ∙ c .if2 .taken)
 
 characteristic-at-requires : tie.Need-characteristic-at-requires
-characteristic-at-requires c κs = search needs
+characteristic-at-requires c κs =
+    let start = c .before .before .before .before in
+    (start-range _ (start .pre .0) .1, start .pre .1, restraint-to _ (start .pre .0))
 
 mul-if3 : tie.Need-mul-if3
-mul-if3 c = search needs
+mul-if3 c =
+    let start = c .before .before .before .before .before .before in
+    omega (arith, differential-to _ (start .pre .0))
 
 returns-3 : tie.Need-returns-3
 returns-3 c =
