@@ -81,6 +81,7 @@ trips-above {x} {slope} d h (VerdictIs.reaches c n r) =
     (λ (g : x .cutoff ≤ d). VerdictIs.at-cutoff g)
     (lt-or-le d (x .cutoff))
 
+-- with it all inputs stay in their ranges
 raised : {x : Inputs} {place : ℕ} (d : ℕ) → d ≤ 10000 → RightAt x place → RightAt (withDifferential x d) place
 raised d m (RightAt.start a b) = RightAt.start a b
 raised d m (RightAt.blocking a b) = RightAt.blocking a b

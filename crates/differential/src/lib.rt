@@ -105,8 +105,8 @@ fn first_outside(x: Inputs) -> Found
     Found::Nothing
 }
 
-// The least slope that fits. What is wanted beyond the start, over what the outside fault current has above 1, rounded up, is the
-// least that would do; the relay offers the next one at or above it.
+// The least slope that fits: of those that the relay offers the next one at or above what is wanted beyond the start, over what the
+// outside fault current has above 1.
 fn least_slope(start: u64, through: u64) -> Found
     requires { ⌜ (start ≤ 100) × (100 ≤ through) × (through ≤ 2000) ⌝ }
     ensures { λ f. ⌜ f ≡ leastSlope start through ⌝ }
