@@ -33,7 +33,7 @@ extern "C" {
 /* Grows with every change of a number or a struct of this header. A caller built with another header than the library's would be
    misread in silence, or its struct written past its end: where that can happen, as with a shared object, compare the two first,
    and stop if they differ. */
-#define SURFPOCKET_VERSION 4
+#define SURFPOCKET_VERSION 5
 uint64_t surfpocket_version(void);
 
 /* Sizes. The first two grow in later versions, so use their names.
@@ -82,6 +82,14 @@ typedef struct {
     uint64_t field;
 } SurfpocketAnswer;
 
+/* As SurfpocketAnswer, and how many rows were worked out: 0 on a refusal. */
+typedef struct {
+    uint64_t number;
+    uint64_t place;
+    uint64_t field;
+    uint64_t rows;
+} SurfpocketReplacement;
+
 /* Number, place (0 the rated current or the unit, 1 the greatest reading, 2 the least), both currents in mA, and both sides of each
    reading: lower, the largest whole number of mA not above it, and upper, the smallest not below it. On DONE the two are equal
    exactly where the reading is a whole number of mA; on STUDY both currents and all sides are 0. */
@@ -129,14 +137,19 @@ typedef struct {
 SurfpocketAnswer surfpocket_whole(const uint64_t *list, size_t list_length, uint64_t *card, size_t card_length);
 
 /* The replacement of the row at a place (from 1) by a row of 18 numbers that keeps its number and its feeder: gives DONE, puts the
-   row into the list and works out the rows from it to the source on the card, or gives the first refusal and leaves list and card
-   as they were (it may have written both meanwhile). Card rows off that path are read as they are and stay, and so do the card's
-   numbers past its rows.
+   row into the list and works out on the card the rows from it towards the source, or gives the first refusal and leaves list and
+   card as they were (it may have written both meanwhile).
+   The climb ends at the first feeding row, after the replaced one, whose new card row equals its old one in all its numbers, or at
+   the source; `rows` counts the replaced row and the feeding rows up to and including that one, the relays that are to be visited.
+   The replaced row itself never ends it, even where its card row stays. Rows past the end, like those off the path, are not worked
+   out: they keep what they had and refuse nothing. On the card of an accepted list they are what starting afresh would give; on a
+   card that is not the list's they may be anything that CARD lets in.
+   Card rows off the path are read as they are and stay, and so do the card's numbers past its rows.
    Order: COUNT, ROOM, EDIT (no row has that place, the new row is not 18 numbers, or its number or feeder is another), then FIELD
    and TREE over the list as it would be, CARD over all rows ascending (pickup 1 to 100,000,000, delay 0 to 100,000, cutoff 0 to
-   100,000,000), then RANGE, OWN ZONE or BACKUP before DELAY row by row along the path. */
-SurfpocketAnswer surfpocket_replace(uint64_t *list, size_t list_length, uint64_t *card, size_t card_length, uint64_t place,
-                                    const uint64_t *row, size_t row_length);
+   100,000,000), then RANGE, OWN ZONE or BACKUP before DELAY row by row along the rows worked out. */
+SurfpocketReplacement surfpocket_replace(uint64_t *list, size_t list_length, uint64_t *card, size_t card_length, uint64_t place,
+                                         const uint64_t *row, size_t row_length);
 
 /* The currents of a study in whole mA: gives DONE with the greatest (for `clear`, field 9) rounded up, the least (for `far`, field
    8) rounded down, and both sides of each reading, or STUDY with all six 0. `greatest` always equals `greatest_upper`, and `least`

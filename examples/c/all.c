@@ -61,6 +61,13 @@ static void show(const char *what, SurfpocketAnswer answer)
            answer.field);
 }
 
+/* the rows worked out, whose relays are to be visited: so many from the replaced one on, each time the row that feeds the last */
+static void show_replacement(const char *what, SurfpocketReplacement given)
+{
+    printf("  %-40s %s, place %" PRIu64 ", %s %" PRIu64 ", rows worked out %" PRIu64 "\n", what, name_of(given.number),
+           given.place, third_of(given.number), given.field, given.rows);
+}
+
 static void show_card(const uint64_t *card)
 {
     for (size_t i = 0; i < ROWS; i++) {
@@ -99,7 +106,7 @@ static void whole(void)
 }
 
 /* the replacement of row 1 of the plant, one field changed, on the list and card lent */
-static SurfpocketAnswer put_row_1(uint64_t *list, uint64_t *card, size_t field, uint64_t value)
+static SurfpocketReplacement put_row_1(uint64_t *list, uint64_t *card, size_t field, uint64_t value)
 {
     /* a copy: a row that points into the list would overlap it */
     uint64_t row[SURFPOCKET_SIZE_FIELDS];
@@ -114,28 +121,33 @@ static void replace(void)
     memcpy(list, plant, sizeof list);
     surfpocket_whole(list, NUMBERS, card, SETTINGS);
     puts("the replacement of row 1");
-    show("work 190,000 mA", put_row_1(list, card, WORK, 190000));
+    show_replacement("work 190,000 mA", put_row_1(list, card, WORK, 190000));
     show_card(card);
-    show("an electromechanical relay", put_row_1(list, card, DEVICE, 2));
+    show_replacement("an electromechanical relay", put_row_1(list, card, DEVICE, 2));
     show_card(card);
+    show_replacement("row 2 in place of itself",
+                     surfpocket_replace(list, NUMBERS, card, SETTINGS, 2, plant + SURFPOCKET_SIZE_FIELDS, SURFPOCKET_SIZE_FIELDS));
     memcpy(old_list, list, sizeof list);
     memcpy(old_card, card, sizeof card);
-    show("work 5,000,000 mA", put_row_1(list, card, WORK, 5000000));
-    show("far 431,000 mA", put_row_1(list, card, FAR, 431000));
-    show("floor 2,501 ms", put_row_1(list, card, FLOOR, 2501));
-    show("volts 99", put_row_1(list, card, VOLTS, 99));
-    show("another feeder", put_row_1(list, card, FEEDS_FROM, 0));
-    show("another number", put_row_1(list, card, ROW, 2));
-    show("a place that no row has", surfpocket_replace(list, NUMBERS, card, SETTINGS, 3, plant, SURFPOCKET_SIZE_FIELDS));
-    show("a new row of 17 numbers", surfpocket_replace(list, NUMBERS, card, SETTINGS, 1, plant, SURFPOCKET_SIZE_FIELDS - 1));
-    show("a list with a partial row", surfpocket_replace(list, NUMBERS - 1, card, SETTINGS, 1, plant, SURFPOCKET_SIZE_FIELDS));
-    show("no card", surfpocket_replace(list, NUMBERS, NULL, 0, 1, plant, SURFPOCKET_SIZE_FIELDS));
+    show_replacement("work 5,000,000 mA", put_row_1(list, card, WORK, 5000000));
+    show_replacement("far 431,000 mA", put_row_1(list, card, FAR, 431000));
+    show_replacement("floor 2,501 ms", put_row_1(list, card, FLOOR, 2501));
+    show_replacement("volts 99", put_row_1(list, card, VOLTS, 99));
+    show_replacement("another feeder", put_row_1(list, card, FEEDS_FROM, 0));
+    show_replacement("another number", put_row_1(list, card, ROW, 2));
+    show_replacement("a place that no row has",
+                     surfpocket_replace(list, NUMBERS, card, SETTINGS, 3, plant, SURFPOCKET_SIZE_FIELDS));
+    show_replacement("a new row of 17 numbers",
+                     surfpocket_replace(list, NUMBERS, card, SETTINGS, 1, plant, SURFPOCKET_SIZE_FIELDS - 1));
+    show_replacement("a list with a partial row",
+                     surfpocket_replace(list, NUMBERS - 1, card, SETTINGS, 1, plant, SURFPOCKET_SIZE_FIELDS));
+    show_replacement("no card", surfpocket_replace(list, NUMBERS, NULL, 0, 1, plant, SURFPOCKET_SIZE_FIELDS));
     printf("    list and card stand as they stood: %s\n",
            memcmp(list, old_list, sizeof list) == 0 && memcmp(card, old_card, sizeof card) == 0 ? "yes" : "no");
     card[SURFPOCKET_SIZE_COLUMNS] = 0;
-    show("a card with pickup 0 in row 2", put_row_1(list, card, WORK, 190000));
+    show_replacement("a card with pickup 0 in row 2", put_row_1(list, card, WORK, 190000));
     list[SURFPOCKET_SIZE_FIELDS + KIND] = 3;
-    show("a list whose row 2 is a motor", put_row_1(list, card, WORK, 190000));
+    show_replacement("a list whose row 2 is a motor", put_row_1(list, card, WORK, 190000));
 }
 
 /* what lies on both sides of a reading: the same number, if it is a whole number of mA */

@@ -1,10 +1,16 @@
-"""A feeder and its incomer: one changed load on the old card, changes that are refused and leave the card alone, another device."""
+"""A feeder and its incomer: one changed load on the old card, changes that are refused and leave the card alone, another device.
+Then a plant of eight rows: how far a changed load goes, and so which relays the fitter visits."""
+import csv
+import itertools
+
 import surfpocket
 
 # row, feeds_from, kind, volts, work, selfstart, return, far, clear, near, factor, low, high, step, device, floor, ceiling, backed
 F1 = [1, 2, 1, 35000, 180000, 1500, 935, 900000, 1000000, 1800000, 1300, 50000, 5000000, 1000, 1, 1900, 5000, 1]
 IN = [2, 0, 1, 35000, 200000, 1500, 935, 1500000, 3300000, 5200000, 1300, 50000, 10000000, 10000, 1, 0, 3000, 0]
+PLANT = surfpocket.HOME / "examples/lists/plant-35-6.csv"
 # places in a row, from 0
+FEEDS_FROM = 1
 WORK = 4
 FAR = 7
 LOW = 11
@@ -15,6 +21,13 @@ def changed(row, field, value):
     return row[:field] + [value] + row[field + 1 :]
 
 
+def path(rows, place):
+    """The row's place, that of the row that feeds it, and so on to the source."""
+    while place:
+        yield place
+        place = rows[(place - 1) * surfpocket.FIELDS + FEEDS_FROM]
+
+
 def replace(library, rows, card, new):
     """Puts the new row into the list and works out the card with it; prints what comes of it."""
     new = surfpocket.numbers([new])
@@ -23,14 +36,21 @@ def replace(library, rows, card, new):
         surfpocket.print_card(card)
     else:
         surfpocket.print_refusal(answer)
+    visits = [str(place) for place in itertools.islice(path(rows, new[0]), answer.rows)]
+    print(f"rows worked out: {answer.rows}; relays to visit: {', '.join(visits) or 'none'}")
+
+
+def first_card(library, rows):
+    """The list as the library is lent it, and its card, printed."""
+    lent, card = surfpocket.numbers(rows), surfpocket.empty_card(rows)
+    library.surfpocket_whole(lent, len(lent), card, len(card))
+    surfpocket.print_card(card)
+    return lent, card
 
 
 def main():
     library = surfpocket.load()
-    rows = surfpocket.numbers([F1, IN])
-    card = surfpocket.empty_card([F1, IN])
-    library.surfpocket_whole(rows, len(rows), card, len(card))
-    surfpocket.print_card(card)
+    rows, card = first_card(library, [F1, IN])
     print("row 1, work 190,000 mA:")
     replace(library, rows, card, changed(F1, WORK, 190000))
     print("row 1, far 431,000 mA:")
@@ -41,6 +61,15 @@ def main():
     surfpocket.print_card(card)
     print("row 2, an electromechanical relay:")
     replace(library, rows, card, changed(IN, DEVICE, 2))
+    print("the plant:")
+    with open(PLANT, newline="") as text:
+        lines = list(csv.reader(text))[1:]
+    plant = [[int(cell) for cell in line[:1] + line[2:]] for line in lines]
+    rows, card = first_card(library, plant)
+    print("row 1, work 121,000 mA:")
+    replace(library, rows, card, changed(plant[0], WORK, 121000))
+    print("row 1, work 118,000 mA:")
+    replace(library, rows, card, changed(plant[0], WORK, 118000))
 
 
 if __name__ == "__main__":

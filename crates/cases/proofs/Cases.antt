@@ -16,6 +16,7 @@ use Rattle.calculate.specs.Whole.{ending, calculation, whole}
 use Rattle.cases.specs.Case.{Worked, comes, worked}
 use Rattle.cases.specs.Cases.{table, twoRows, twoCard, backedCard, laterCard, blank, firstRow, underOne, pickups}
 use Rattle.path.specs.Path.{pathFrom, pathOf}
+use Rattle.path.specs.Reach.{onward, reachFrom}
 use Rattle.change.specs.Edit.{putList, editRight, editTest}
 use Rattle.change.specs.Replace.{reworked, outcome, replaced}
 use Rattle.path.specs.CardTest.{cardRight, cardAnswer, cardTest}
@@ -25,5 +26,5 @@ unfolding first sumTo every count valueAt leastOn sizeTest rowsTest inBounds fie
     returnsAfterSelfStart clearOf seesOwnZone backsUp withinDelays margin marginBetween gradedAbove staysClear seesNear meetsLower unbacked firstUnbacked
     candidate byBackup judged picked meetsDelay fitting cutoffOf printed shown outcomeOf settled putCardRow onSettled workOut upFrom
     ending calculation whole comes worked table twoRows twoCard backedCard laterCard blank firstRow underOne pickups
-    pathFrom pathOf putList editRight editTest cardRight cardAnswer cardTest onPassed reworked outcome replaced
+    pathFrom pathOf onward reachFrom putList editRight editTest cardRight cardAnswer cardTest onPassed reworked outcome replaced
 cases = refl

@@ -14,8 +14,9 @@ use Rattle.settle.specs.Settle.{meetsDelay, fitting, cutoffOf, printed, shown, 
 use Rattle.rowwise.specs.WorkOut.{onSettled, workOut, upFrom, onPassed}
 use Rattle.calculate.specs.Whole.{ending, calculation, whole}
 use Rattle.cases.specs.Case.{Worked, comes, worked}
-use Rattle.cases.specs.MoreCases.{plant, lent, plantCard, chain, chainCard, conditions, faults, ranges, replacements, gradings, moreTable}
+use Rattle.cases.specs.MoreCases.{plant, lent, plantCard, chain, chainCard, conditions, faults, ranges, replacements, gradings, stopping, moreTable}
 use Rattle.path.specs.Path.{pathFrom, pathOf}
+use Rattle.path.specs.Reach.{onward, reachFrom}
 use Rattle.change.specs.Edit.{putList, editRight, editTest}
 use Rattle.change.specs.Replace.{reworked, outcome, replaced}
 use Rattle.path.specs.CardTest.{cardRight, cardAnswer, cardTest}
@@ -25,6 +26,6 @@ unfolding first sumTo every count valueAt leastOn sizeTest rowsTest inBounds fie
     returnsAfterSelfStart clearOf seesOwnZone backsUp withinDelays margin marginBetween gradedAbove staysClear seesNear meetsLower unbacked firstUnbacked
     candidate byBackup judged picked meetsDelay fitting cutoffOf
     printed shown outcomeOf settled putCardRow onSettled workOut upFrom ending calculation whole comes worked moreTable conditions faults ranges
-    replacements gradings plant lent plantCard chain chainCard pathFrom pathOf putList editRight editTest cardRight cardAnswer cardTest onPassed
+    replacements gradings stopping plant lent plantCard chain chainCard pathFrom pathOf onward reachFrom putList editRight editTest cardRight cardAnswer cardTest onPassed
     reworked outcome replaced
 more-cases = refl

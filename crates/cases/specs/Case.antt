@@ -16,17 +16,18 @@ pub data Case : Type 0 where
   replaces : List ℕ → List ℕ → ℕ → List ℕ → Case
   clears : List ℕ → Settings → ℕ → ℕ → Case
 
--- number, place and what names it more closely, with the card afterwards; the same with list and card afterwards; whether it is met
+-- number, place and what names it more closely, with the card afterwards; the same with the count of the rows worked out, and list and
+-- card afterwards; whether it is met
 pub data Comes : Type 0 where
   calculated : List ℕ → List ℕ → Comes
-  replacing : List ℕ → List ℕ → List ℕ → Comes
+  replacing : List ℕ → ℕ → List ℕ → List ℕ → Comes
   clear : Bool → Comes
 
 unfoldable pub comes : Case → Comes
 comes (calculates l c) = calculated (givenBy (whole l c .answer)) (whole l c .card)
 comes (replaces l c place row) =
     let r = replaced l c place row in
-    replacing (givenBy (r .answer)) (r .list) (r .card)
+    replacing (givenBy (r .answer)) (r .count) (r .list) (r .card)
 comes (clears l k i I) = clear (eachFed (viewOf l) i (λ j. clearOf (viewOf l) k i j I))
 
 -- a case with what the documents say of it

@@ -61,12 +61,12 @@ done l c = worked (calculates l blank) (calculated (0 ∷ 0 ∷ 0 ∷ []) c)
 abbrev refused : List ℕ → ℕ → ℕ → ℕ → Worked
 refused l number row fed = worked (calculates l blank) (calculated (number ∷ row ∷ fed ∷ []) blank)
 
--- row 1 of a list and card replaced by one with this work and far: done, or refused
+-- row 1 of a list and card replaced by one with this work and far: done, both rows being worked out, or refused
 abbrev becomes : List ℕ → List ℕ → ℕ → ℕ → List ℕ → List ℕ → Worked
-becomes l c work far l′ c′ = worked (replaces l c 1 (firstRow work far)) (replacing (0 ∷ 0 ∷ 0 ∷ []) l′ c′)
+becomes l c work far l′ c′ = worked (replaces l c 1 (firstRow work far)) (replacing (0 ∷ 0 ∷ 0 ∷ []) 2 l′ c′)
 
 abbrev stays : List ℕ → List ℕ → ℕ → ℕ → ℕ → ℕ → ℕ → Worked
-stays l c work far number row fed = worked (replaces l c 1 (firstRow work far)) (replacing (number ∷ row ∷ fed ∷ []) l c)
+stays l c work far number row fed = worked (replaces l c 1 (firstRow work far)) (replacing (number ∷ row ∷ fed ∷ []) 0 l c)
 
 -- pickup I of the third row against P2, the pickups below being a and b
 abbrev heldTo : ℕ → ℕ → ℕ → Bool → Worked

@@ -1,4 +1,4 @@
--- [01 §2, §3, §4], [02 §2, §5] Worked cases beside the starred ones: kinds 2 and 3, devices 2 and 3, unequal volts, every refusal
+-- [01 §2, §3, §4], [02 §2, §5, §8] Worked cases beside the starred ones: kinds 2 and 3, devices 2 and 3, unequal volts, every refusal
 -- number, and pairs of faults that show the order. The numbers were worked out from the documents by hand. Rows, fields and
 -- places are counted from 1, as there. Definitions only.
 use mathlib.Core.List.{List, [], _∷_, _++_}
@@ -43,13 +43,13 @@ done l c = worked (calculates l lent) (calculated (0 ∷ 0 ∷ 0 ∷ []) c)
 abbrev refused : List ℕ → ℕ → ℕ → ℕ → Worked
 refused l number place field = worked (calculates l lent) (calculated (number ∷ place ∷ field ∷ []) lent)
 
--- row n of a list and card replaced by that of another list, which is then the list, with its card
-abbrev becomes : List ℕ → List ℕ → ℕ → List ℕ → List ℕ → Worked
-becomes l c n l′ c′ = worked (replaces l c n (row n l′)) (replacing (0 ∷ 0 ∷ 0 ∷ []) l′ c′)
+-- row n of a list and card replaced by that of another list, m rows being worked out; that is then the list, with its card
+abbrev becomes : List ℕ → List ℕ → ℕ → ℕ → List ℕ → List ℕ → Worked
+becomes l c n m l′ c′ = worked (replaces l c n (row n l′)) (replacing (0 ∷ 0 ∷ 0 ∷ []) m l′ c′)
 
 -- a replacement on a list and a card refused with three numbers; on the plant
 abbrev keptIn : List ℕ → List ℕ → ℕ → List ℕ → ℕ → ℕ → ℕ → Worked
-keptIn l c place new number at field = worked (replaces l c place new) (replacing (number ∷ at ∷ field ∷ []) l c)
+keptIn l c place new number at field = worked (replaces l c place new) (replacing (number ∷ at ∷ field ∷ []) 0 l c)
 
 abbrev kept : List ℕ → ℕ → List ℕ → ℕ → ℕ → ℕ → Worked
 kept = keptIn plant
@@ -167,28 +167,28 @@ ranges =
 unfoldable pub replacements : List Worked
 replacements =
     -- the line with another far: its own card row stays, and the transformer is settled anew
-    becomes plant plantCard 1 (with plant 1 8 500000) plantCard
+    becomes plant plantCard 1 2 (with plant 1 8 500000) plantCard
     ∷ kept plantCard 1 (row 1 (with plant 1 8 458699)) 13 3 1
     -- the transformer by itself
-    ∷ becomes plant plantCard 3 (with plant 3 16 500) plantCard
-    ∷ becomes plant plantCard 3 (with plant 3 10 605799) (cardOf 152900 500 0)
+    ∷ becomes plant plantCard 3 1 (with plant 3 16 500) plantCard
+    ∷ becomes plant plantCard 3 1 (with plant 3 10 605799) (cardOf 152900 500 0)
     -- offering pickups from 162,900 on: P4 asks 12 × 162,900 × 25,000 = 10 × 488,700 × 10,000 of the line, which is off its path
-    ∷ becomes (with plant 1 8 488700) plantCard 3 (with (with (with plant 1 8 488700) 3 12 162900) 3 8 300000) (cardOf 162900 500 302900)
+    ∷ becomes (with plant 1 8 488700) plantCard 3 1 (with (with (with plant 1 8 488700) 3 12 162900) 3 8 300000) (cardOf 162900 500 302900)
     ∷ keptIn (with plant 1 8 488699) plantCard 3 (row 3 (with (with plant 3 12 162900) 3 8 300000)) 13 3 1
     -- a card that does not belong to the list: the motor's row is read as it is found, those of the path are not read. P2:
     -- 11 × (300,000 × 6,000 + 100,000 × 10,000) / (10 × 25,000) = 123,200, so 132,900
-    ∷ becomes plant (found 300000) 1 plant
+    ∷ becomes plant (found 300000) 1 2 plant
     (165000 ∷ 0 ∷ 605000 ∷ 300000 ∷ 50 ∷ 0 ∷ 132900 ∷ 500 ∷ 302900 ∷ 77 ∷ [])
     -- so P4 asks 12 × 132,900 × 25,000 = 10 × 398,700 × 10,000 of the line, and P3 15 × 132,900 = 10 × 199,350
-    ∷ becomes plant (found 300000) 1 (with plant 1 8 398700) (165000 ∷ 0 ∷ 605000 ∷ 300000 ∷ 50 ∷ 0 ∷ 132900 ∷ 500 ∷ 302900 ∷ 77 ∷ [])
+    ∷ becomes plant (found 300000) 1 2 (with plant 1 8 398700) (165000 ∷ 0 ∷ 605000 ∷ 300000 ∷ 50 ∷ 0 ∷ 132900 ∷ 500 ∷ 302900 ∷ 77 ∷ [])
     ∷ kept (found 300000) 1 (row 1 (with plant 1 8 398699)) 13 3 1
-    ∷ becomes plant (set (found 300000) 1 0) 3 (with plant 3 8 199350) (9 ∷ 0 ∷ 9 ∷ 300000 ∷ 50 ∷ 0 ∷ 132900 ∷ 500 ∷ 302900 ∷ 77 ∷ [])
+    ∷ becomes plant (set (found 300000) 1 0) 3 1 (with plant 3 8 199350) (9 ∷ 0 ∷ 9 ∷ 300000 ∷ 50 ∷ 0 ∷ 132900 ∷ 500 ∷ 302900 ∷ 77 ∷ [])
     ∷ kept (set (found 300000) 1 0) 3 (row 3 (with plant 3 8 199349)) 12 3 0
     -- 11 × (1,359,469 × 6,000 + 100,000 × 10,000) / (10 × 25,000) = 402,899.816, and the greatest offered is 402,900
     ∷ kept (found 1359469) 1 (row 1 plant) 12 3 0
     ∷ kept (found 1359470) 1 (row 1 plant) 11 3 0
     -- 2 and 3
-    ∷ worked (replaces (drop 1 plant) plantCard 1 (row 1 plant)) (replacing (2 ∷ 0 ∷ 0 ∷ []) (drop 1 plant) plantCard)
+    ∷ worked (replaces (drop 1 plant) plantCard 1 (row 1 plant)) (replacing (2 ∷ 0 ∷ 0 ∷ []) 0 (drop 1 plant) plantCard)
     ∷ kept (take 8 plantCard) 0 (row 1 plant) 3 0 0
     -- 10: the place, the new row's length, its field 1, its field 2; before 4
     ∷ kept plantCard 0 (row 1 plant) 10 0 0
@@ -248,21 +248,69 @@ gradings =
     ∷ done (chain 1 3 3) (chainCard 400 600)
     ∷ done (chain 3 3 3) (chainCard 300 500)
     -- the second row replaced, by its device alone: downward its own delay, upward its feeder's; then by device 3
-    ∷ becomes (chain 1 1 1) (chainCard 400 700) 2 (chain 1 2 1) (chainCard 600 1100)
-    ∷ becomes (chain 1 2 1) (chainCard 600 1100) 2 (chain 1 3 1) (chainCard 400 700)
+    ∷ becomes (chain 1 1 1) (chainCard 400 700) 2 2 (chain 1 2 1) (chainCard 600 1100)
+    ∷ becomes (chain 1 2 1) (chainCard 600 1100) 2 2 (chain 1 3 1) (chainCard 400 700)
     -- the first: only upward; the third: only downward
-    ∷ becomes (chain 1 1 1) (chainCard 400 700) 1 (chain 2 1 1) (chainCard 600 900)
-    ∷ becomes (chain 1 1 1) (chainCard 400 700) 3 (chain 1 1 2) (chainCard 400 900)
+    ∷ becomes (chain 1 1 1) (chainCard 400 700) 1 3 (chain 2 1 1) (chainCard 600 900)
+    ∷ becomes (chain 1 1 1) (chainCard 400 700) 3 1 (chain 1 1 2) (chainCard 400 900)
     -- the second with floor 600: its own card row stays, and its feeder's does not
-    ∷ becomes (with (chain 1 1 1) 2 16 600) (chainCard 600 900) 2 (with (chain 1 2 1) 2 16 600) (chainCard 600 1100)
+    ∷ becomes (with (chain 1 1 1) 2 16 600) (chainCard 600 900) 2 2 (with (chain 1 2 1) 2 16 600) (chainCard 600 1100)
     -- a card that does not belong to the list: 250 is found in the first row
-    ∷ becomes (chain 1 1 1) (set (chainCard 9 9) 1 250) 2 (chain 1 2 1) (set (chainCard 750 1250) 1 250)
+    ∷ becomes (chain 1 1 1) (set (chainCard 9 9) 1 250) 2 2 (chain 1 2 1) (set (chainCard 750 1250) 1 250)
     -- at the ceiling and one off, in the row itself and in its feeder
-    ∷ becomes (chain 1 1 1) (chainCard 400 700) 2 (with (chain 1 2 1) 2 17 600) (chainCard 600 1100)
+    ∷ becomes (chain 1 1 1) (chainCard 400 700) 2 2 (with (chain 1 2 1) 2 17 600) (chainCard 600 1100)
     ∷ stays (chain 1 1 1) (chainCard 400 700) 2 (with (chain 1 2 1) 2 17 599) 7 2
-    ∷ becomes (with (chain 1 1 1) 3 17 1100) (chainCard 400 700) 2 (with (chain 1 2 1) 3 17 1100) (chainCard 600 1100)
+    ∷ becomes (with (chain 1 1 1) 3 17 1100) (chainCard 400 700) 2 2 (with (chain 1 2 1) 3 17 1100) (chainCard 600 1100)
     ∷ stays (with (chain 1 1 1) 3 17 1099) (chainCard 400 700) 2 (with (chain 1 2 1) 3 17 1099) 7 3
     ∷ []
 
+-- [02 §8] the chain's first row with another work and floor, and its third with another floor and ceiling; a card with these delays
+-- and this third row. The second row needs 1.1 times its own work, 121,000, whatever the first's pickup up to 110,000
+abbrev three : ℕ → ℕ → ℕ → ℕ → List ℕ
+three work floor floor₃ ceiling₃ = with (with (with (with (chain 1 1 1) 1 5 work) 1 16 floor) 3 16 floor₃) 3 17 ceiling₃
+
+abbrev threeCard : ℕ → ℕ → ℕ → ℕ → List ℕ → List ℕ
+threeCard I t I₂ t₂ rest = I ∷ t ∷ 220000 ∷ I₂ ∷ t₂ ∷ 220000 ∷ rest
+
+abbrev third : ℕ → ℕ → List ℕ
+third I t = I ∷ t ∷ 220000 ∷ 77 ∷ []
+
+-- a row on top of it, which no card of the chain holds
+abbrev four : ℕ → List ℕ
+four floor = with (with (with (chain 1 1 1) 1 16 floor) 3 2 4) 3 16 800 ++ link 4 0 133100 1 0 []
+
+-- how far a change goes
+unfoldable pub stopping : List Worked
+stopping =
+    -- the replaced row never stops it, even as it was; the second row, as it was, does; what stands past it stays, whatever it is
+    becomes (three 100000 100 490 2000) (threeCard 110000 100 121000 400 (third 133100 700)) 1 2 (three 100000 100 490 2000)
+    (threeCard 110000 100 121000 400 (third 133100 700))
+    ∷ becomes (three 100000 100 490 2000) (threeCard 110000 100 121000 400 (third 9 9)) 1 2 (three 90000 100 490 2000)
+    (threeCard 99000 100 121000 400 (third 9 9))
+    -- equal in the pickup only, in the delay only; in both and not in the cutoff, which was lent as another
+    ∷ becomes (three 100000 100 490 2000) (threeCard 110000 100 121000 400 (third 133100 700)) 1 3 (three 100000 200 490 2000)
+    (threeCard 110000 200 121000 500 (third 133100 800))
+    ∷ becomes (three 100000 100 490 2000) (threeCard 110000 100 121000 400 (third 133100 700)) 1 3 (three 101000 100 490 2000)
+    (threeCard 111100 100 123200 400 (third 136400 700))
+    ∷ becomes (three 100000 100 490 2000) (set (threeCard 110000 100 121000 400 (third 9 9)) 5 219999) 1 3 (three 100000 100 490 2000)
+    (threeCard 110000 100 121000 400 (third 133100 700))
+    -- the third row, as it was, is the last either way: 500 + 300 and its floor
+    ∷ becomes (three 100000 100 800 2000) (threeCard 110000 100 121000 400 (third 133100 800)) 1 3 (three 100000 200 800 2000)
+    (threeCard 110000 200 121000 500 (third 133100 800))
+    -- and stops it short of a fourth
+    ∷ becomes (four 100) (threeCard 110000 100 121000 400 (133100 ∷ 800 ∷ 220000 ∷ 9 ∷ 9 ∷ 9 ∷ 77 ∷ [])) 1 3 (four 200)
+    (threeCard 110000 200 121000 500 (133100 ∷ 800 ∷ 220000 ∷ 9 ∷ 9 ∷ 9 ∷ 77 ∷ []))
+    ∷ becomes (four 100) (threeCard 110000 100 121000 400 (133100 ∷ 800 ∷ 220000 ∷ 9 ∷ 9 ∷ 9 ∷ 77 ∷ [])) 1 4 (four 201)
+    (threeCard 110000 201 121000 501 (133100 ∷ 801 ∷ 220000 ∷ 147400 ∷ 1101 ∷ 220000 ∷ 77 ∷ []))
+    -- past the stop nothing is refused: the third row's ceiling is a millisecond short; the second row lent otherwise, it is
+    ∷ becomes (three 100000 100 490 699) (threeCard 110000 100 121000 400 (third 9 9)) 1 2 (three 90000 100 490 699)
+    (threeCard 99000 100 121000 400 (third 9 9))
+    ∷ stays (three 100000 100 490 699) (threeCard 110000 100 121000 401 (third 9 9)) 1 (three 90000 100 490 699) 7 3
+    -- [01 §7] the trap: only the line's work is another, its own card row stays, and the transformer's does not. By P2 above the motor
+    -- 11 × (412,500 × 6,000 + 77,272 × 10,000) / (10 × 25,000) = 142,899.68; with 77,273 it is 142,900.12
+    ∷ becomes (with plant 1 12 165000) plantCard 1 2 (with (with plant 1 12 165000) 1 5 77272) (cardOf 142900 500 302900)
+    ∷ becomes (with plant 1 12 165000) plantCard 1 2 (with (with plant 1 12 165000) 1 5 77273) plantCard
+    ∷ []
+
 unfoldable pub moreTable : List Worked
-moreTable = conditions ++ (faults ++ (ranges ++ (replacements ++ gradings)))
+moreTable = conditions ++ (faults ++ (ranges ++ (replacements ++ (gradings ++ stopping))))

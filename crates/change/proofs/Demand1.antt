@@ -24,14 +24,15 @@ use Rattle.rowwise.specs.WorkOut.{onPassed}
 use Rattle.change.specs.AnyCard.{PathRefused}
 use Rattle.change.specs.Edit.{editRight}
 use Rattle.change.specs.Gets.{made, Fits, Passes, ReplacementGets}
+use Rattle.change.specs.Ready.{answerOf}
 use Rattle.change.specs.Replace.{Replaced, reworked, outcome, replaced}
-use Rattle.change.proofs.AnyCard.{path-meets, path-accepted}
+use Rattle.change.proofs.AnyCard.{path-exactly}
 use Rattle.change.proofs.EditLaws.{edit-fits, fits-edit}
 use Rattle.change.proofs.EditedLaws.{edited-rows, edited-is-row}
 use Rattle.change.proofs.EntryLaws.{answer-size}
 use Rattle.change.proofs.KeptLaws.{refused-keeps}
 use Rattle.change.proofs.PathEndLaws.{Ended, ended}
-use Rattle.change.proofs.PathLeastLaws.{never-refused, same-refusal}
+use Rattle.change.proofs.PathOneLaws.{ended-not-refused, same-refusal}
 use Rattle.change.proofs.SeriesLaws.{replaced-edit, replaced-edited}
 
 module _ (l c : List ℕ) (place : ℕ) (row : List ℕ) where
@@ -49,7 +50,7 @@ module _ (l c : List ℕ) (place : ℕ) (row : List ℕ) where
     is-row : place - 1 < rows l′
     is-row = rw (← edited-rows l place row (f .edit)) (edited-is-row l place row (f .edit))
 
-    goes-on : answer ≡ outcome l c l′ (reworked l′ (place - 1) c) .answer
+    goes-on : answer ≡ outcome l c l′ (place - 1) (reworked l′ (place - 1) c) .answer
     goes-on =
         ap (λ (r : Replaced). r .answer)
         (replaced-edited l c place row (get-size l (length c) (SizeGets.passed (f .right-size) (f .room))) (f .edit))
@@ -63,15 +64,16 @@ module _ (l c : List ℕ) (place : ℕ) (row : List ℕ) where
     by-card a r b g = goes-on ∙ rw (get-rows l′ few (RowsGet.passed r b), get-card l′ c g)
 
   by-size : (a : Answer) → SizeGets l (length c) (Refused a) → answer ≡ a
+  unfolding answerOf
   by-size a g = sym (answer-size l c place row _ a refl (get-size l (length c) g) .answer)
 
   by-path : (a : Answer) (p : Passes l c place row) → PathRefused l′ (place - 1) c a → answer ≡ a
   by-path a p z = by-cases (ended l c place row p)
     where
       by-cases : Ended l c place row p → answer ≡ a
-      by-cases (Ended.done d found least) =
+      by-cases (Ended.done d v) =
           absurd
-          (never-refused l′ (p .feeds) (place - 1) (is-row (p .fits)) c (cardRowAt (replaced l c place row .card)) (path-meets l c place row p d) z)
+          (ended-not-refused l′ (p .feeds) (place - 1) (is-row (p .fits)) c (cardRowAt (replaced l c place row .card)) (v .last) (v .worked) z)
       by-cases (Ended.refused-by x d z′) = d ∙ same-refusal l′ (p .feeds) (place - 1) (is-row (p .fits)) c (λ j h. p .in-range j h .bounded) z′ z
 
   get : {a : Answer} → ReplacementGets l c place row a → answer ≡ a
@@ -84,7 +86,7 @@ module _ (l c : List ℕ) (place : ℕ) (row : List ℕ) where
   get (ReplacementGets.TREE i f r w) = by-rows f _ (RowsGet.TREE i r w)
   get (ReplacementGets.CARD i f r b w) = by-card f _ r b (CardGets.CARD i w)
   get (ReplacementGets.UNSETTLED p z) = by-path _ p z
-  get (ReplacementGets.DONE k p m) = path-accepted l c place row p k m
+  get (ReplacementGets.DONE k s p w) = path-exactly l c place row p .1 (k, s, w)
 
   -- one of them is given
   gets : ReplacementGets l c place row (replaced l c place row .answer)
@@ -94,7 +96,7 @@ module _ (l c : List ℕ) (place : ℕ) (row : List ℕ) where
       given g = subst (ReplacementGets l c place row) (sym (get g)) g
 
       path : (p : Passes l c place row) → Ended l c place row p → ReplacementGets l c place row answer
-      path p (Ended.done d found least) = given (ReplacementGets.DONE (cardRowAt (replaced l c place row .card)) p (path-meets l c place row p d))
+      path p (Ended.done d v) = given (ReplacementGets.DONE (cardRowAt (replaced l c place row .card)) (v .last) p (v .worked))
       path p (Ended.refused-by x d z) = given (ReplacementGets.UNSETTLED p z)
 
       cards : Fits l c place row → InRange l′ → Feeds l′ → {t : Tested} → CardGets l′ c t → ReplacementGets l c place row answer

@@ -21,7 +21,7 @@ use Rattle.rows.specs.InRange.{RightSize, HasRoom, SizeGets}
 use Rattle.rows.proofs.ExactLaws.{get-size}
 use Rattle.rowwise.specs.WorkOut.{Worked, finished, refused}
 use Rattle.calculate.specs.Whole.{Result, ending, whole}
-use Rattle.path.specs.Path.{pathOf}
+use Rattle.path.specs.Reach.{reach}
 use Rattle.change.specs.Claims.{AfterSeries, AsWhole, LeftAlone}
 use Rattle.change.specs.Edit.{putList, EditFits}
 use Rattle.change.specs.Gets.{ReplacementGets}
@@ -78,7 +78,7 @@ replaced-as-whole l c₀ c g place row f =
     (made-refuses l c₀ c x place row f)
   where
     by-cases :
-        (w : Worked) → replaced l c place row ≡ outcome l c (putList l (place - 1) row) w → whole (putList l (place - 1) row) c₀ ≡ ending c₀ w →
+        (w : Worked) → replaced l c place row ≡ outcome l c (putList l (place - 1) row) (place - 1) w → whole (putList l (place - 1) row) c₀ ≡ ending c₀ w →
         whole (putList l (place - 1) row) c₀ .answer ≡ whole (putList l (place - 1) row) c .answer → ((a : Answer) → w ≡ refused a → Refuses a) →
         AsWhole l c₀ c place row
     by-cases (finished d) r w s n =
@@ -111,7 +111,7 @@ edit-exactly l c place row s r = (
   λ n. replacement-gets l c place row Edit .1 (ReplacementGets.EDIT s r n),
 )
   where
-    by-cases : (w : Worked) → reworked (putList l (place - 1) row) (place - 1) c ≡ w → outcome l c (putList l (place - 1) row) w .answer ≡ Edit → ⊥
+    by-cases : (w : Worked) → reworked (putList l (place - 1) row) (place - 1) c ≡ w → outcome l c (putList l (place - 1) row) (place - 1) w .answer ≡ Edit → ⊥
     by-cases (finished d) q e = done-not-edit e
     by-cases (refused a) q e = later-edit (reworked-later (putList l (place - 1) row) (place - 1) c a q) e
 
@@ -120,7 +120,7 @@ pub off-path-kept :
     LeftAlone l c place row (replaced l c place row .list) (replaced l c place row .card)
 off-path-kept l c place row e =
     let r = replaces l c place row e in
-    let k = workOut-keeps (putList l (place - 1) row) (pathOf (putList l (place - 1) row) (place - 1)) c (r .card) (r .worked) in
+    let k = workOut-keeps (putList l (place - 1) row) (reach (putList l (place - 1) row) (place - 1) c) c (r .card) (r .worked) in
     let put = edited-put l place row (r .fits) in
     rw (r .is)
     (record {

@@ -26,6 +26,8 @@ use Rattle.settle.specs.Settle.{shown, settled}
 use Rattle.rowwise.specs.WorkOut.{Worked, finished, refused, onSettled, workOut, onPassed}
 use Rattle.rowwise.proofs.EndLaws.{never-finished}
 use Rattle.path.specs.Path.{OnPath, pathOf, has, onPath}
+use Rattle.path.specs.Reach.{reach}
+use Rattle.path.proofs.ReachLaws.{reach-inside, reach-outside}
 use Rattle.change.specs.Edit.{putList, EditFits, editTest}
 use Rattle.change.specs.Replace.{reworked, outcome, replaced}
 use Rattle.change.proofs.EditedLaws.{edited-rows, edited-is-row, edited-path}
@@ -80,14 +82,20 @@ module _ (l c : List ℕ) (place : ℕ) (row : List ℕ) where
     pub size : sizeTest (length l) (length c) ≡ Passed
     pub fits : EditFits l place row
     pub tested : rowsTest (putList l (place - 1) row) ≡ Passed
-    pub worked : workOut (putList l (place - 1) row) (pathOf (putList l (place - 1) row) (place - 1)) c ≡ finished card
-    pub is : replaced l c place row ≡ record { answer = Done; list = putList l (place - 1) row; card = card }
+    pub worked : workOut (putList l (place - 1) row) (reach (putList l (place - 1) row) (place - 1) c) c ≡ finished card
+    pub is :
+        replaced l c place row ≡ record {
+          answer = Done;
+          list = putList l (place - 1) row;
+          card = card;
+          count = length (reach (putList l (place - 1) row) (place - 1) c);
+        }
 
   pub replaces : replaced l c place row .answer ≡ Done → Replaces
   unfolding replaced outcome reworked
   replaces e = by-cases tried refl e
     where
-      by-cases : (w : Worked) → tried ≡ w → outcome l c (putList l (place - 1) row) w .answer ≡ Done → Replaces
+      by-cases : (w : Worked) → tried ≡ w → outcome l c (putList l (place - 1) row) (place - 1) w .answer ≡ Done → Replaces
       by-cases (finished d) q g =
           let s = passed-finished _ _ d q in
           let t = passed-finished _ _ d (s .1) in
@@ -98,7 +106,7 @@ module _ (l c : List ℕ) (place : ℕ) (row : List ℕ) where
             fits = edit-passed l place row (t .0);
             tested = u .0;
             worked = passed-finished _ _ d (u .1) .1;
-            is = ap (outcome l c (putList l (place - 1) row)) q;
+            is = ap (outcome l c (putList l (place - 1) row) (place - 1)) q;
           }
       by-cases (refused a) q g = absurd (refuses-done (tried-refuses a q) g)
 
@@ -109,7 +117,7 @@ module _ (l c : List ℕ) (place : ℕ) (row : List ℕ) where
     where
       by-cases :
           (w : Worked) → tried ≡ w →
-          outcome l c (putList l (place - 1) row) w .list ≡ cond (eqb (numberOf (outcome l c (putList l (place - 1) row) w .answer)) 0)
+          outcome l c (putList l (place - 1) row) (place - 1) w .list ≡ cond (eqb (numberOf (outcome l c (putList l (place - 1) row) (place - 1) w .answer)) 0)
           (putList l (place - 1) row) l
       by-cases (finished d) q = refl
       by-cases (refused a) q = rw (tried-refuses a q .not-done)
@@ -120,24 +128,35 @@ module _ (l c : List ℕ) (place : ℕ) (row : List ℕ) where
   refused-keeps n = by-cases tried n
     where
       by-cases :
-          (w : Worked) → (outcome l c (putList l (place - 1) row) w .answer ≡ Done → ⊥) →
-          (outcome l c (putList l (place - 1) row) w .list ≡ l) × (outcome l c (putList l (place - 1) row) w .card ≡ c)
+          (w : Worked) → (outcome l c (putList l (place - 1) row) (place - 1) w .answer ≡ Done → ⊥) →
+          (outcome l c (putList l (place - 1) row) (place - 1) w .list ≡ l) × (outcome l c (putList l (place - 1) row) (place - 1) w .card ≡ c)
       by-cases (finished d) n = absurd (n refl)
       by-cases (refused a) n = (refl, refl)
 
-  -- a row off the path is none of the new list's path, whose rows are rows of the list
+  pub refused-counts : (replaced l c place row .answer ≡ Done → ⊥) → replaced l c place row .count ≡ 0
+  unfolding replaced outcome
+  refused-counts n = by-cases tried n
+    where
+      by-cases :
+          (w : Worked) → (outcome l c (putList l (place - 1) row) (place - 1) w .answer ≡ Done → ⊥) →
+          outcome l c (putList l (place - 1) row) (place - 1) w .count ≡ 0
+      by-cases (finished d) n = absurd (n refl)
+      by-cases (refused a) n = refl
+
+  -- a row off the path is none of the rows worked out, which are rows of the list
   module _ (f : EditFits l place row) (t : rowsTest (putList l (place - 1) row) ≡ Passed) where
-    pub off-outside : (j : ℕ) → (OnPath l (place - 1) j → ⊥) → has (pathOf (putList l (place - 1) row) (place - 1)) j ≡ false
+    pub off-outside : (j : ℕ) → (OnPath l (place - 1) j → ⊥) → has (reach (putList l (place - 1) row) (place - 1) c) j ≡ false
     unfolding onPath
     off-outside j off =
-        off-path-exactly (putList l (place - 1) row) (passed-feeds (putList l (place - 1) row) t) (place - 1) j
+        reach-outside (putList l (place - 1) row) false (pathOf (putList l (place - 1) row) (place - 1)) c j
+        (off-path-exactly (putList l (place - 1) row) (passed-feeds (putList l (place - 1) row) t) (place - 1) j
         (rw (← edited-rows l place row f) (edited-is-row l place row f)) .1
-        (λ o. off (edited-path l place row f o))
+        (λ o. off (edited-path l place row f o)))
 
-    pub path-within : (i : ℕ) → has (pathOf (putList l (place - 1) row) (place - 1)) i ≡ true → i * columnCount + columnCount ≤ rows l * columnCount
+    pub path-within : (i : ℕ) → has (reach (putList l (place - 1) row) (place - 1) c) i ≡ true → i * columnCount + columnCount ≤ rows l * columnCount
     unfolding onPath
     path-within i on =
         let n = edited-rows l place row f in
         let k = on-within (putList l (place - 1) row) (passed-feeds (putList l (place - 1) row) t) (place - 1) i
-        (rw (← n) (edited-is-row l place row f)) on in
+        (rw (← n) (edited-is-row l place row f)) (reach-inside (putList l (place - 1) row) false (pathOf (putList l (place - 1) row) (place - 1)) c i on) in
         omega arith

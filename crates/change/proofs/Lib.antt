@@ -10,8 +10,10 @@ pub mod EntryLaws
 pub mod KeptLaws
 pub mod PathEndLaws
 pub mod PathLeastLaws
+pub mod PathOneLaws
 pub mod PutLaws
 pub mod RefusalLaws
 pub mod ReworkLaws
 pub mod SeriesLaws
 pub mod SkipLaws
+pub mod StopLaws

@@ -16,14 +16,10 @@ use Rattle.rows.specs.InRange.{SizeGets, RowsGet}
 use Rattle.rows.specs.Tests.{sizeTest, rowsTest}
 use Rattle.rows.proofs.ExactLaws.{get-size, size-rows, get-rows}
 use Rattle.rowwise.specs.WorkOut.{Worked, onPassed, workOut}
-use Rattle.settle.specs.Inequalities.{LeastRow}
-use Rattle.settle.proofs.SettledTheorems.{settled-least}
 use Rattle.path.specs.CardTest.{CardGets}
-use Rattle.path.specs.Path.{OnPath, pathOf}
+use Rattle.path.specs.Reach.{reach}
 use Rattle.path.proofs.CardTestLaws.{get-card}
-use Rattle.path.proofs.OnPathLaws.{path-on}
-use Rattle.path.proofs.PathLaws.{on-within}
-use Rattle.change.specs.AnyCard.{AsFound, PathRefused, NO-PICKUP, DELAY}
+use Rattle.change.specs.AnyCard.{PathRefused, NO-PICKUP, DELAY, Visits}
 use Rattle.change.specs.Gets.{made, Passes}
 use Rattle.change.specs.Replace.{Replaced, reworked, outcome, replaced}
 use Rattle.change.proofs.AlongLaws.{Climbed, climbed}
@@ -57,28 +53,27 @@ module _ (l c : List ℕ) (place : ℕ) (row : List ℕ) (p : Passes l c place r
   rows-passed : rowsTest l′ ≡ Passed
   rows-passed = get-rows l′ (rw (← same-rows) (size-rows l (p .fits .right-size))) (RowsGet.passed (p .in-range) (p .feeds))
 
-  works : replaced l c place row ≡ outcome l c l′ (workOut l′ (pathOf l′ (place - 1)) c)
+  works : replaced l c place row ≡ outcome l c l′ (place - 1) (workOut l′ (reach l′ (place - 1) c) c)
   unfolding reworked onPassed
   works =
       replaced-edited l c place row size-passed (p .fits .edit) ∙
-      ap (outcome l c l′) (rw (rows-passed, get-card l′ c (CardGets.passed (p .card))))
+      ap (outcome l c l′ (place - 1)) (rw (rows-passed, get-card l′ c (CardGets.passed (p .card))))
 
   -- how it ends
   pub data Ended : Type 0 where
     done :
-        replaced l c place row .answer ≡ Done → AsFound (made l place row) (place - 1) c (cardRowAt (replaced l c place row .card)) →
-        ((j : ℕ) → OnPath (made l place row) (place - 1) j → LeastRow (viewOf (made l place row)) (cardRowAt (replaced l c place row .card)) j) → Ended
+        replaced l c place row .answer ≡ Done →
+        Visits (made l place row) (place - 1) c (cardRowAt (replaced l c place row .card)) (replaced l c place row .count) → Ended
     refused-by : (x : Answer) → replaced l c place row .answer ≡ x → PathRefused (made l place row) (place - 1) c x → Ended
 
   pub ended : Ended
   unfolding outcome
   ended = by-cases (climbed l′ bounded (p .feeds) (place - 1) is-row c room) works
     where
-      by-cases : {w : Worked} → Climbed l′ bounded (p .feeds) (place - 1) is-row c w → replaced l c place row ≡ outcome l c l′ w → Ended
-      by-cases (Climbed.settled-all c′ found all) e =
-          let q : replaced l c place row .card ≡ c′ = ap (λ (r : Replaced). r .card) e in
-          done (ap (λ (r : Replaced). r .answer) e) (rw q found)
-          (λ j o.
-          let within = on-within l′ (p .feeds) (place - 1) j is-row (path-on l′ (p .feeds) is-row o) in
-          rw q (settled-least (viewOf l′) (cardRowAt c′) j (bounded j within .step-from) (all j o)))
-      by-cases (Climbed.stopped x z) e = refused-by x (ap (λ (r : Replaced). r .answer) e) z
+      by-cases :
+          {w : Worked} → Climbed l′ bounded (p .feeds) (place - 1) is-row c (place - 1) (reach l′ (place - 1) c) w →
+          replaced l c place row ≡ outcome l c l′ (place - 1) w → Ended
+      by-cases (Climbed.worked-to c′ s w n) e =
+          done (ap (λ (r : Replaced). r .answer) e)
+          (rw e (record { last = s; worked = w; counted = n }))
+      by-cases (Climbed.refused-by x z) e = refused-by x (ap (λ (r : Replaced). r .answer) e) z

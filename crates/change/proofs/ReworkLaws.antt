@@ -1,13 +1,15 @@
--- After an edit of an accepted list, a row off the path has the same fields, fed rows and card numbers as before, so it stands
--- at its own least settings; the path worked out on the card is then the whole calculation of the new list.
+-- After an edit of an accepted list, a row that is not the new one and does not feed it has the same fields, fed rows and card numbers
+-- as before, so it stands at its own least settings. So do the rows off the path, and those past its first two: the path worked out on
+-- the card, as far as the climb goes, is then the whole calculation of the new list.
 use mathlib.Core.Path.{_≡_, refl, sym, ap, _∙_, subst}
 use mathlib.Core.Bool.{false}
 use mathlib.Core.List.{List}
 use Prim.Native.Nat.{ℕ, _+_, _-_, _*_, _≤_, _<_}
+use native.Mathlib.Omega.{arith}
 use lib.Dec.{eqb}
 use lib.ListN.{length, drop}
 use Rattle.rowwise.specs.WorkOut.{onPassed}
-use Rattle.fold.proofs.BoolLaws.{not-both}
+use Rattle.fold.proofs.BoolLaws.{not-both, fails}
 use Rattle.answers.specs.declared.Tested.{Tested}
 use Rattle.answers.specs.declared.Tested.the-variants.{Passed, Refused}
 use Rattle.layout.specs.Card.{cardRowAt}
@@ -17,17 +19,20 @@ use Rattle.layout.specs.View.{viewOf}
 use Rattle.rows.specs.InRange.{Feeds}
 use Rattle.rows.specs.Tests.{rowsTest}
 use Rattle.rows.proofs.InRangeLaws.{passed-in-range, passed-feeds}
+use Rattle.settle.specs.Conditions.{fed}
 use Rattle.settle.proofs.SameLaws.{settled-same}
 use Rattle.calculate.specs.Whole.{calculation}
 use Rattle.calculate.proofs.FrameLaws.{calculation-keeps}
+use Rattle.calculate.proofs.SettledLaws.{Settles}
 use Rattle.path.specs.Path.{onPath}
 use Rattle.change.specs.Edit.{putList, EditFits}
 use Rattle.change.specs.Replace.{reworked}
 use Rattle.path.specs.CardTest.{CardGets, cardTest}
 use Rattle.change.proofs.AcceptLaws.{Accepts, settled-fits, accepted-room, accepted-length, rows-settled}
 use Rattle.change.proofs.EditedLaws.{edited-rows, edited-is-row, edited-row, edited-feeder}
-use Rattle.path.proofs.PathLaws.{on-self}
+use Rattle.path.proofs.PathLaws.{on-self, on-within}
 use Rattle.change.proofs.SkipLaws.{Rests, fed-off, calculation-path, calculation-same}
+use Rattle.change.proofs.StopLaws.{Stand, reach-whole}
 use Rattle.path.proofs.CardTestLaws.{get-card}
 
 module _ (l c₀ c : List ℕ) (x : Accepts l c₀ c) (place : ℕ) (row : List ℕ) (f : EditFits l place row) where
@@ -57,21 +62,29 @@ module _ (l c₀ c : List ℕ) (x : Accepts l c₀ c) (place : ℕ) (row : List 
     not-new : (j : ℕ) → onPath l′ (place - 1) j ≡ false → j ≡ place - 1 → ⊥
     not-new j off q = not-both (on-self l′ feeds (place - 1) is-row) (rw q at off)
 
-    rests : Rests l′ feeds (place - 1) is-row c
-    unfolding Rests
-    rests j h off =
+    stands : (j : ℕ) → j < rows l′ → (j ≡ place - 1 → ⊥) → fed (viewOf l′) j (place - 1) ≡ false → Settles l′ c j
+    stands j h other not-fed =
         let s = rows-settled l c₀ c x j (below j h) in
         record {
           outcome = s .outcome;
           settles =
               settled-same (viewOf l′) (viewOf l) (cardRowAt c) (cardRowAt c) j (sym (edited-rows l place row f))
-              (sym (edited-row l place row f j (not-new j off)))
+              (sym (edited-row l place row f j other))
               (λ k _. ap (λ (f : ℕ). eqb f (j + 1)) (sym (edited-feeder l place row f k)))
-              (λ k _ g. sym (edited-row l place row f k (not-new k (fed-off l′ feeds (place - 1) is-row j k off g))))
+              (λ k _ g. sym (edited-row l place row f k (λ q. not-both g (rw q not-fed))))
               (λ k _ _. refl) ∙
               s .settles;
           shows = s .shows;
         }
+
+    rests : Rests l′ feeds (place - 1) is-row c
+    unfolding Rests
+    rests j h off =
+        stands j h (not-new j off)
+        (fails (fed (viewOf l′) j (place - 1)) (λ g. not-new (place - 1) (fed-off l′ feeds (place - 1) is-row j (place - 1) off g) refl))
+
+    stand : Stand l′ feeds false (place - 1) c
+    stand y o g not-fed = stands y (on-within l′ feeds (place - 1) y is-row o) (λ q. omega arith) (not-fed refl)
 
     same-calculation : calculation l′ c ≡ calculation l′ c₀
     same-calculation =
@@ -87,5 +100,6 @@ module _ (l c₀ c : List ℕ) (x : Accepts l c₀ c) (place : ℕ) (row : List 
     where
       by-cases : (t : Tested) → rowsTest l′ ≡ t → reworked l′ (place - 1) c ≡ onPassed (rowsTest l′) (calculation l′ c₀)
       by-cases Passed e =
-          rw (e, card-passes e) (sym (calculation-path l′ (feeds e) (place - 1) (is-row e) c (rests e)) ∙ same-calculation e)
+          rw (e, card-passes e)
+          (reach-whole l′ (feeds e) (place - 1) c (is-row e) (stand e) ∙ sym (calculation-path l′ (feeds e) (place - 1) (is-row e) c (rests e)) ∙ same-calculation e)
       by-cases (Refused a) e = rw e

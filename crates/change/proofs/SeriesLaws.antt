@@ -59,14 +59,14 @@ edit-cases l place row f g = ⊎-elim (λ e. f (edit-fits l place row e) e) g (p
 -- EDIT applies
 pub replaced-edit :
     (l c : List ℕ) (place : ℕ) (row : List ℕ) → sizeTest (length l) (length c) ≡ Passed → editRight l place row ≡ false →
-    replaced l c place row ≡ record { answer = Edit; list = l; card = c }
+    replaced l c place row ≡ record { answer = Edit; list = l; card = c; count = 0 }
 unfolding replaced onPassed outcome
 replaced-edit l c place row s e = rw (s, sym (edit-refuses l place row (λ f. not-both (fits-edit l place row f) e)))
 
 -- EDIT does not apply
 pub replaced-edited :
     (l c : List ℕ) (place : ℕ) (row : List ℕ) → sizeTest (length l) (length c) ≡ Passed → EditFits l place row →
-    replaced l c place row ≡ outcome l c (putList l (place - 1) row) (reworked (putList l (place - 1) row) (place - 1) c)
+    replaced l c place row ≡ outcome l c (putList l (place - 1) row) (place - 1) (reworked (putList l (place - 1) row) (place - 1) c)
 unfolding replaced onPassed
 replaced-edited l c place row s f = rw (s, sym (edit-passes l place row f))
 
@@ -82,8 +82,8 @@ module _ (l c₀ c : List ℕ) (x : Accepts l c₀ c) where
     made-size : sizeTest (length (putList l (place - 1) row)) (length c₀) ≡ Passed
     made-size = rw (edited-length l place row f) (x .size)
 
-    pub replaced-made : replaced l c place row ≡ outcome l c (putList l (place - 1) row) made
-    replaced-made = replaced-edited l c place row size-again f ∙ ap (outcome l c (putList l (place - 1) row)) (reworked-whole l c₀ c x place row f)
+    pub replaced-made : replaced l c place row ≡ outcome l c (putList l (place - 1) row) (place - 1) made
+    replaced-made = replaced-edited l c place row size-again f ∙ ap (outcome l c (putList l (place - 1) row) (place - 1)) (reworked-whole l c₀ c x place row f)
 
     pub whole-made : whole (putList l (place - 1) row) c₀ ≡ ending c₀ made
     whole-made = whole-as (putList l (place - 1) row) c₀ made-size
@@ -127,6 +127,6 @@ one-agrees l c₀ c g place row =
 
     by-cases :
         (f : EditFits l place row) (w : Worked) → made l c₀ c x place row f ≡ w →
-        Agrees c₀ (outcome l c (putList l (place - 1) row) w) (kept l (putList l (place - 1) row) (ending c₀ w .answer))
+        Agrees c₀ (outcome l c (putList l (place - 1) row) (place - 1) w) (kept l (putList l (place - 1) row) (ending c₀ w .answer))
     by-cases f (finished d) q = record { answer = refl; list = refl; accepted = whole-made l c₀ c x place row f ∙ ap (ending c₀) q }
     by-cases f (refused a) q = record { answer = refl; list = rw (made-refuses l c₀ c x place row f a q .not-done); accepted = g }

@@ -43,7 +43,7 @@ module _ (l : List ℕ) (j x : ℕ) (c : List ℕ) (k : CardRow) where
       record { outcome = s .outcome; settles = put-settled n ∙ s .settles; shows = putCardRow-other c x k j o ∙ s .shows }
 
 -- a row at its own least settings is written with what stands there
-workOut-skip : (l : List ℕ) (j : ℕ) (is c : List ℕ) → Settles l c j → workOut l (j ∷ is) c ≡ workOut l is c
+pub workOut-skip : (l : List ℕ) (j : ℕ) (is c : List ℕ) → Settles l c j → workOut l (j ∷ is) c ≡ workOut l is c
 unfolding workOut onSettled
 workOut-skip l j is c r = rw (r .settles, ← r .shows) (ap (workOut l is) (putCardRow-stands c j))
 

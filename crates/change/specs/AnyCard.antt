@@ -1,35 +1,43 @@
--- [01 §4], [02 §2] "A replacement reads the card rows off the path as it finds them. If the card doesn't belong to the list, the answer is
--- still fixed: the conditions applied along the path to those numbers." l is the list with the new row in it, i that row, c the
--- card as it is found, k the settings of every row. Rows are counted from 0. Definitions only.
+-- [01 §4], [02 §2, §8] "A replacement reads the card rows off the path as it finds them. If the card doesn't belong to the list, the
+-- answer is still fixed: the conditions applied along the path to those numbers", up to the first feeding row, after the replaced one,
+-- whose new card row equals its old one; "rows past the stop keep what they had". l is the list with the new row in it, i that row, c
+-- the card as it is found, k the settings of every row. The rows of a path ascend. Rows are counted from 0. Definitions only.
 use mathlib.Core.Path.{_≡_}
+use mathlib.Core.Logic.{_⊎_}
 use mathlib.Core.List.{List}
-use Prim.Native.Nat.{ℕ, _+_, _<_}
+use Prim.Native.Nat.{ℕ, _+_, _≤_, _<_}
 use Rattle.answers.specs.declared.Answer.{Answer}
 use Rattle.answers.specs.declared.Answer.the-variants.{Unsettled}
 use Rattle.answers.specs.declared.Cause.{Cause}
 use Rattle.answers.specs.declared.Reason.the-variants.{Pickup, Delay}
 use Rattle.layout.specs.Card.{cardRowAt}
-use Rattle.layout.specs.List.{rows, rowAt}
+use Rattle.layout.specs.Fields.{atFeeder}
+use Rattle.layout.specs.List.{rows, field, rowAt}
 use Rattle.layout.specs.View.{viewOf, Settings}
-use Rattle.path.specs.Path.{OnPath}
+use Rattle.path.specs.Path.{OnPath, Nth}
 use Rattle.settle.specs.Inequalities.{AvailableOn, PickupMet, DelayMet, SomePickup, NoDelay, CauseIs, LeastRow}
 
 -- off the path of row i, k has the numbers found on the card
 abbrev pub AsFound : List ℕ → ℕ → List ℕ → Settings → Type 0
 AsFound l i c k = (j : ℕ) → j < rows l → (OnPath l i j → ⊥) → k j ≡ cardRowAt c j
 
--- and in each row of the path k is available and meets every condition of section 3
-pub record PathMeets (l : List ℕ) (i : ℕ) (c : List ℕ) (k : Settings) : Type 0 where
+-- and in each row of the path up to row n k is available and meets every condition of section 3
+pub record MeetsTo (l : List ℕ) (i : ℕ) (c : List ℕ) (k : Settings) (n : ℕ) : Type 0 where
   pub off-path : AsFound l i c k
-  pub available : (j : ℕ) → OnPath l i j → AvailableOn (rowAt l j) (k j .pickup)
-  pub pickups : (j : ℕ) → OnPath l i j → PickupMet (viewOf l) k j (k j .pickup)
-  pub delays : (j : ℕ) → OnPath l i j → DelayMet (viewOf l) k j (k j .delay)
+  pub available : (j : ℕ) → OnPath l i j → j ≤ n → AvailableOn (rowAt l j) (k j .pickup)
+  pub pickups : (j : ℕ) → OnPath l i j → j ≤ n → PickupMet (viewOf l) k j (k j .pickup)
+  pub delays : (j : ℕ) → OnPath l i j → j ≤ n → DelayMet (viewOf l) k j (k j .delay)
 
--- row j of the path is next: the rows of the path below it are at their least settings
+-- the climb goes on past row j: it is the replaced row, or its new card row is not its old one
+abbrev pub GoesOn : ℕ → List ℕ → Settings → ℕ → Type 0
+GoesOn i c k j = (j ≡ i → ⊥) → k j ≡ cardRowAt c j → ⊥
+
+-- row j of the path is next: the rows of the path below it are at their least settings, and none of them stopped the climb
 pub record PathUpTo (l : List ℕ) (i : ℕ) (c : List ℕ) (k : Settings) (j : ℕ) : Type 0 where
   pub on-path : OnPath l i j
   pub off-path : AsFound l i c k
   pub rows-below : (m : ℕ) → OnPath l i m → m < j → LeastRow (viewOf l) k m
+  pub went-on : (m : ℕ) → OnPath l i m → m < j → GoesOn i c k m
 
 -- 11 RANGE, 12 OWN ZONE and 13 BACKUP, then 7 DELAY, along the path: no pickup fits the row that is next, for this cause; or some
 -- pickup does, and no delay
@@ -40,3 +48,19 @@ pub data PathRefused (l : List ℕ) (i : ℕ) (c : List ℕ) : Answer → Type 0
   DELAY :
       (k : Settings) (j : ℕ) → PathUpTo l i c k j → SomePickup (viewOf l) k j → NoDelay (viewOf l) k j →
       PathRefused l i c (Unsettled (j + 1) Delay)
+
+-- the climb ends at row s of the path: the rows up to it are at their least settings; it is the first feeding row, after the replaced
+-- one, whose new card row equals its old one, or there is none and the source feeds it; the rows past it keep what they had
+pub record WorkedTo (l : List ℕ) (i : ℕ) (c : List ℕ) (k : Settings) (s : ℕ) : Type 0 where
+  pub on-path : OnPath l i s
+  pub off-path : AsFound l i c k
+  pub least : (j : ℕ) → OnPath l i j → j ≤ s → LeastRow (viewOf l) k j
+  pub went-on : (j : ℕ) → OnPath l i j → j < s → GoesOn i c k j
+  pub stopped : (field l s atFeeder ≡ 0) ⊎ ((s ≡ i → ⊥) × (k s ≡ cardRowAt c s))
+  pub past : (j : ℕ) → OnPath l i j → s < j → k j ≡ cardRowAt c j
+
+-- "The count equals the rows of the path up to and including that one, or the whole path if there is none"
+pub record Visits (l : List ℕ) (i : ℕ) (c : List ℕ) (k : Settings) (count : ℕ) : Type 0 where
+  pub last : ℕ
+  pub worked : WorkedTo l i c k last
+  pub counted : Nth l i count last

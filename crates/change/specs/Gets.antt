@@ -1,6 +1,6 @@
--- [01 §4], [02 §2] Which number and place a replacement gets, for any list, card, place and new row: "2, 3, 10, then 4 and 5 over the
--- list as it would be, then 9 over all rows ascending, then 6 and 7 along the path", with 11, 12 and 13 where 6 stood. Each answer
--- stands with all that comes before it in this order absent. Rows and fields are counted from 0, places in answers from 1. Definitions
+-- [01 §4], [02 §2, §8] Which number and place a replacement gets, for any list, card, place and new row: "2, 3, 10, then 4 and 5 over the
+-- list as it would be, then 9 over all rows ascending, then 6 and 7 along the path", with 11, 12 and 13 where 6 stood, as far as the
+-- climb goes. Each answer stands with all that comes before it in this order absent. Rows and fields are counted from 0, places in answers from 1. Definitions
 -- only.
 use mathlib.Core.List.{List}
 use Prim.Native.Nat.{ℕ, _+_, _-_}
@@ -10,7 +10,7 @@ use Rattle.answers.specs.declared.Answer.the-variants.{Done, Count, Room, Edit,
 use Rattle.layout.specs.View.{Settings}
 use Rattle.path.specs.CardTest.{CardInRange, FirstCardOut}
 use Rattle.rows.specs.InRange.{RightSize, HasRoom, InRange, Feeds, FirstOutOfRange, FirstMisfed}
-use Rattle.change.specs.AnyCard.{PathMeets, PathRefused}
+use Rattle.change.specs.AnyCard.{WorkedTo, PathRefused}
 use Rattle.change.specs.Edit.{putList, EditFits}
 
 -- the list as it would be
@@ -44,4 +44,5 @@ pub data ReplacementGets (l c : List ℕ) (place : ℕ) (row : List ℕ) : Answe
       ReplacementGets l c place row (Card (i + 1))
   UNSETTLED :
       {a : Answer} → Passes l c place row → PathRefused (made l place row) (place - 1) c a → ReplacementGets l c place row a
-  DONE : (k : Settings) → Passes l c place row → PathMeets (made l place row) (place - 1) c k → ReplacementGets l c place row Done
+  DONE :
+      (k : Settings) (s : ℕ) → Passes l c place row → WorkedTo (made l place row) (place - 1) c k s → ReplacementGets l c place row Done

@@ -5,7 +5,10 @@ use Prim.Native.Nat.{ℕ}
 use lib.ListN.{length}
 use Rattle.layout.specs.Counts.{fieldCount}
 use Rattle.answers.specs.declared.Answer.{Answer}
+use Rattle.answers.specs.declared.Answer.the-variants.{Done}
 use Rattle.answers.specs.Answer.{givenBy}
+use Rattle.path.specs.declared.HowFar.{HowFar}
+use Rattle.path.specs.declared.HowFar.the-variants.{Rows, Refused}
 use Rattle.path.specs.Ready.{ReworkReady}
 use Rattle.change.specs.Edit.{putList}
 use Rattle.change.specs.Replace.{reworked, outcome, Replaced}
@@ -16,16 +19,27 @@ pub record ExchangeReady (l : List ℕ) (i : ℕ) (c row : List ℕ) : Type 0 wh
 
 -- a new row in the place of row i
 abbrev pub exchanged : List ℕ → List ℕ → ℕ → List ℕ → Replaced
-exchanged l c i row = outcome l c (putList l i row) (reworked (putList l i row) i c)
+exchanged l c i row = outcome l c (putList l i row) i (reworked (putList l i row) i c)
 
--- the answer, the list and the card are the replacement's
-pub record Exchanged (z : Replaced) (a : Answer) (l c : List ℕ) : Type 0 where
-  pub answer : a ≡ z .answer
+-- the answer of a working out, and the count of its rows
+unfoldable pub answerOf : HowFar → Answer
+answerOf (Rows n) = Done
+answerOf (Refused a) = a
+
+unfoldable pub countOf : HowFar → ℕ
+countOf (Rows n) = n
+countOf (Refused a) = 0
+
+-- the answer, the count, the list and the card are the replacement's
+pub record Exchanged (z : Replaced) (f : HowFar) (l c : List ℕ) : Type 0 where
+  pub answer : answerOf f ≡ z .answer
+  pub count : countOf f ≡ z .count
   pub list : l ≡ z .list
   pub card : c ≡ z .card
 
--- the same, the answer in section 4's numbers
-pub record Gave (z : Replaced) (g l c : List ℕ) : Type 0 where
+-- the same, the answer in section 4's numbers g, and n rows
+pub record Gave (z : Replaced) (g : List ℕ) (n : ℕ) (l c : List ℕ) : Type 0 where
   pub numbers : g ≡ givenBy (z .answer)
+  pub count : n ≡ z .count
   pub list : l ≡ z .list
   pub card : c ≡ z .card

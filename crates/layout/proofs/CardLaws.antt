@@ -1,19 +1,42 @@
 -- A card after a row is put in: that row is the one put in, the others stay, and so does what stands past them.
 use mathlib.Core.Path.{_≡_, refl, sym, ap, _∙_}
-use mathlib.Core.Logic.{_≢_}
+use mathlib.Core.Bool.{Bool, true, _&&_}
+use mathlib.Core.Logic.{_≢_, _↔_}
 use mathlib.Core.List.{List}
 use Prim.Native.Nat.{ℕ, zero, suc, _+_, _*_, _≤_, _<_}
 use native.Mathlib.Omega.{arith}
+use lib.Dec.{eqb}
 use lib.ListN.{length, getD, take, drop}
 use lib.Seq.{length-sets}
+use borrow.Author.Tests.{eqb-true, eq-eqb}
+use Rattle.fold.proofs.BoolLaws.{and-left, and-right}
 use Rattle.blocks.proofs.BlockLaws.{sets-before, sets-behind, sets-stands, sets-is, block-own, block-other, drop-sets, blocks-agree}
 use Rattle.layout.specs.declared.CardRow.{CardRow}
 use Rattle.layout.specs.Counts.{columnCount}
-use Rattle.layout.specs.Card.{column, cardRowAt, columnsOf, putCardRow}
+use Rattle.layout.specs.Card.{column, cardRowAt, columnsOf, putCardRow, sameCardRow}
 
 -- a card row is its columns
 pub same-columns : {k k′ : CardRow} → k .pickup ≡ k′ .pickup → k .delay ≡ k′ .delay → k .cutoff ≡ k′ .cutoff → k ≡ k′
 same-columns p d q = λ t. record { pickup = p t; delay = d t; cutoff = q t }
+
+-- the test of it: equal in all their numbers
+module _ (a b : CardRow) where
+  abbrev delays : Bool
+  delays = eqb (a .delay) (b .delay)
+
+  abbrev cutoffs : Bool
+  cutoffs = eqb (a .cutoff) (b .cutoff)
+
+  pub same-card-row-exactly : (sameCardRow a b ≡ true) ↔ (a ≡ b)
+  same-card-row-exactly = (
+    λ e.
+        let rest = and-right (eqb (a .pickup) (b .pickup)) (delays && cutoffs) e in
+        same-columns
+        (eqb-true (a .pickup) (b .pickup) (and-left (eqb (a .pickup) (b .pickup)) (delays && cutoffs) e))
+        (eqb-true (a .delay) (b .delay) (and-left delays cutoffs rest))
+        (eqb-true (a .cutoff) (b .cutoff) (and-right delays cutoffs rest)),
+    λ e. rw (e, eq-eqb (b .pickup) (b .pickup) refl, eq-eqb (b .delay) (b .delay) refl, eq-eqb (b .cutoff) (b .cutoff) refl),
+  )
 
 pub column-of : (c : List ℕ) (i k : ℕ) → k < columnCount → column c i k ≡ getD (columnsOf (cardRowAt c i)) k 0
 column-of c i zero h = refl

@@ -1,6 +1,8 @@
 -- [01 §4] A card lent as numbers: its rows one after the other, column by column. Rows are counted from 0. Definitions only.
+use mathlib.Core.Bool.{Bool, _&&_}
 use mathlib.Core.List.{List, [], _∷_}
 use Prim.Native.Nat.{ℕ, _+_, _*_}
+use lib.Dec.{eqb}
 use lib.ListN.{getD}
 use lib.Seq.{sets}
 use Rattle.layout.specs.declared.CardRow.{CardRow}
@@ -20,6 +22,10 @@ columnsOf k = k .pickup ∷ k .delay ∷ k .cutoff ∷ []
 -- the card with another row i
 unfoldable pub putCardRow : List ℕ → ℕ → CardRow → List ℕ
 putCardRow c i k = sets c (i * columnCount) (columnsOf k)
+
+-- [02 §8] two card rows are equal in all their numbers
+abbrev pub sameCardRow : CardRow → CardRow → Bool
+sameCardRow a b = eqb (a .pickup) (b .pickup) && (eqb (a .delay) (b .delay) && eqb (a .cutoff) (b .cutoff))
 
 -- the least and the greatest number of each column of a lent card, in the order of the card [01 §4, 9 CARD]
 abbrev pub columnBounds : List ℕ

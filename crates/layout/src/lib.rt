@@ -4,7 +4,7 @@ use blocks::put;
 ghost use mathlib.Core.Path.{_≡_};
 ghost use Prim.Native.Nat.{_+_, _*_, _<_, _≤_};
 ghost use lib.ListN.{length};
-ghost use Rattle.layout.specs.Card.{column, cardRowAt, columnBounds, putCardRow};
+ghost use Rattle.layout.specs.Card.{column, cardRowAt, columnBounds, putCardRow, sameCardRow};
 ghost use Rattle.layout.specs.Counts.{fieldCount, columnCount};
 ghost use Rattle.layout.specs.Fields.{bounds, inBounds};
 ghost use Rattle.layout.specs.List.{field, rowAt};
@@ -208,4 +208,17 @@ pub fn put_card_row(card: &mut [u64], i: usize, k: CardRow)
 {
     let columns = [k.pickup, k.delay, k.cutoff];
     put(card, i * COLUMNS, &columns);
+}
+
+// Equal in every column.
+pub fn same_card_row(a: CardRow, b: CardRow) -> bool
+    ensures { λ r. ⌜ r ≡ sameCardRow a b ⌝ }
+{
+    if a.pickup != b.pickup {
+        return false;
+    }
+    if a.delay != b.delay {
+        return false;
+    }
+    a.cutoff == b.cutoff
 }

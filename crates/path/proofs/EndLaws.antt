@@ -1,29 +1,38 @@
--- How a working out ends: what an answer says of it, and of the card.
+-- How a working out ends: what its count or its refusal says of it, and of the card.
 use mathlib.Core.Path.{_≡_, refl, sym, ap, _∙_}
 use mathlib.Core.List.{List}
 use Prim.Native.Nat.{ℕ}
+use lib.ListN.{length}
+use Rattle.fold.proofs.BoolLaws.{zero-not-one}
 use Rattle.answers.specs.declared.Answer.{Answer}
-use Rattle.answers.specs.declared.Tested.{Tested}
-use Rattle.answers.specs.declared.Tested.the-variants.{Passed, Refused}
 use Rattle.rowwise.specs.WorkOut.{Worked, finished, refused}
-use Rattle.rowwise.proofs.EndLaws.{never-passed, same-answer}
-use Rattle.path.specs.Ready.{testedOf, cardOf, Reworked}
+use Rattle.path.specs.declared.HowFar.{HowFar}
+use Rattle.path.specs.declared.HowFar.the-variants.{Rows, Refused}
+use Rattle.path.specs.Ready.{farOf, cardOf, Reworked}
 
--- worked out on the card c′
-module _ (w : Worked) (c c′ : List ℕ) (t : Tested) (c″ : List ℕ) (z : Reworked w c′ t c″) where
-  pub reworked-done : t ≡ Passed → Reworked w c Passed c″
-  unfolding testedOf cardOf
-  reworked-done e = by-cases w (sym e ∙ z .answer) (z .card)
+rows-not-refused : {n : ℕ} {a : Answer} → Rows n ≡ Refused a → ⊥
+rows-not-refused e = zero-not-one cc
+
+same-rows : {n m : ℕ} → Rows n ≡ Rows m → n ≡ m
+same-rows e = cc
+
+same-refused : {a b : Answer} → Refused a ≡ Refused b → a ≡ b
+same-refused e = cc
+
+module _ (is : List ℕ) (w : Worked) (c : List ℕ) (f : HowFar) (c′ : List ℕ) (z : Reworked is w c f c′) where
+  pub reworked-done : (n : ℕ) → f ≡ Rows n → (w ≡ finished c′) × (n ≡ length is)
+  unfolding farOf cardOf
+  reworked-done n e = by-cases w (sym e ∙ z .far) (z .card)
     where
-      by-cases : (w : Worked) → Passed ≡ testedOf w → c″ ≡ cardOf c′ w → Reworked w c Passed c″
-      by-cases (finished d) e q = record { answer = refl; card = q }
-      by-cases (refused a) e q = absurd (never-passed e)
+      by-cases : (w : Worked) → Rows n ≡ farOf is w → c′ ≡ cardOf c w → (w ≡ finished c′) × (n ≡ length is)
+      by-cases (finished d) e q = (ap finished (sym q), same-rows e)
+      by-cases (refused a) e q = absurd (rows-not-refused e)
 
   -- what a refusal is, and that it kept the card
-  pub reworked-refused : (a : Answer) → t ≡ Refused a → (w ≡ refused a) × (c″ ≡ c′)
-  unfolding testedOf cardOf
-  reworked-refused a e = by-cases w (sym e ∙ z .answer) (z .card)
+  pub reworked-refused : (a : Answer) → f ≡ Refused a → (w ≡ refused a) × (c′ ≡ c)
+  unfolding farOf cardOf
+  reworked-refused a e = by-cases w (sym e ∙ z .far) (z .card)
     where
-      by-cases : (w : Worked) → Refused a ≡ testedOf w → c″ ≡ cardOf c′ w → (w ≡ refused a) × (c″ ≡ c′)
-      by-cases (finished d) e q = absurd (never-passed (sym e))
-      by-cases (refused b) e q = (ap refused (sym (same-answer e)), q)
+      by-cases : (w : Worked) → Refused a ≡ farOf is w → c′ ≡ cardOf c w → (w ≡ refused a) × (c′ ≡ c)
+      by-cases (finished d) e q = absurd (rows-not-refused (sym e))
+      by-cases (refused b) e q = (ap refused (sym (same-refused e)), q)

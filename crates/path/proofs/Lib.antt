@@ -4,4 +4,5 @@ pub mod EndLaws
 pub mod OnPathLaws
 pub mod PathLaws
 pub mod PushLaws
+pub mod ReachLaws
 pub mod RestLaws

@@ -1,11 +1,12 @@
 -- A path ascends, holds the feeding row of each of its rows, and is the row itself and then the path of its feeding row.
 use mathlib.Core.Path.{_≡_, refl, sym, ap, _∙_}
-use mathlib.Core.Bool.{Bool, true, false, _&&_, _||_, or-false, or-true}
+use mathlib.Core.Bool.{Bool, true, false, cond, _&&_, _||_, or-false, or-true}
 use mathlib.Core.Logic.{⊎-elim}
 use mathlib.Core.List.{List, [], _∷_}
 use Prim.Native.Nat.{ℕ, zero, suc, _+_, _-_, _≤_, _<_}
 use native.Mathlib.Omega.{arith}
 use lib.Dec.{eqb, ltb}
+use lib.ListN.{length}
 use borrow.Author.Tests.{eqb-true, eqb-false, eq-eqb, ne-eqb, lt-ltb, le-ltb, ltb-true}
 use Rattle.fold.proofs.BoolLaws.{passes-or-fails, fails}
 use Rattle.layout.specs.Fields.{atFeeder}
@@ -27,6 +28,18 @@ module _ (l : List ℕ) (i f : ℕ) (e : f ≡ field l i atFeeder) where
   pub above-fed : (f ≡ 0 → ⊥) → f - 1 ≡ aboveOf l i
   unfolding aboveOf
   above-fed n = rw (ne-eqb (field l i atFeeder) 0 (λ z. n (e ∙ z))) (ap (λ (x : ℕ). x - 1) e)
+
+pub path-length : (l : List ℕ) (i : ℕ) → length (pathOf l i) ≤ rows l
+unfolding pathOf pathFrom
+path-length l i = by-fuel (rows l) i
+  where
+    by-test : (b : Bool) (n i : ℕ) (is : List ℕ) → length is ≤ n → length (i ∷ cond b [] is) ≤ suc n
+    by-test true n i is h = omega arith
+    by-test false n i is h = omega arith
+
+    by-fuel : (n i : ℕ) → length (pathFrom l n i) ≤ n
+    by-fuel zero i = omega arith
+    by-fuel (suc n) i = by-test (eqb (field l i atFeeder) 0) n i (pathFrom l n (field l i atFeeder - 1)) (by-fuel n (field l i atFeeder - 1))
 
 module _ (l : List ℕ) (b : Feeds l) where
   pub fed-climbs : (i : ℕ) → i < rows l → (field l i atFeeder ≡ 0 → ⊥) → Climbs l i

@@ -3,7 +3,7 @@
 use mathlib.Core.Path.{_≡_}
 use mathlib.Core.Bool.{Bool, false, cond, _||_}
 use mathlib.Core.List.{List, [], _∷_}
-use Prim.Native.Nat.{ℕ, zero, suc, _-_}
+use Prim.Native.Nat.{ℕ, zero, suc, _+_, _-_}
 use lib.Dec.{eqb}
 use Rattle.layout.specs.Fields.{atFeeder}
 use Rattle.layout.specs.List.{rows, field}
@@ -12,6 +12,11 @@ use Rattle.layout.specs.List.{rows, field}
 pub data OnPath (l : List ℕ) : ℕ → ℕ → Type 0 where
   itself : (i : ℕ) → OnPath l i i
   above : (i j : ℕ) → (field l i atFeeder ≡ 0 → ⊥) → OnPath l (field l i atFeeder - 1) j → OnPath l i j
+
+-- row j is the n-th row of the path of row i, which is the first
+pub data Nth (l : List ℕ) : ℕ → ℕ → ℕ → Type 0 where
+  first : (i : ℕ) → Nth l i 1 i
+  next : (i n j : ℕ) → (field l i atFeeder ≡ 0 → ⊥) → Nth l (field l i atFeeder - 1) n j → Nth l i (n + 1) j
 
 -- the path from row i, of at most n rows
 unfoldable pub pathFrom : List ℕ → ℕ → ℕ → List ℕ

@@ -4,15 +4,16 @@ use mathlib.Core.Bool.{not}
 use mathlib.Core.List.{List}
 use Prim.Native.Nat.{ℕ, _+_, _*_, _<_, _≤_}
 use lib.ListN.{length}
-use Rattle.answers.specs.declared.Tested.{Tested}
-use Rattle.answers.specs.declared.Tested.the-variants.{Passed, Refused}
+use Rattle.answers.specs.declared.Tested.the-variants.{Passed}
 use Rattle.layout.specs.Card.{cardRowAt}
 use Rattle.layout.specs.Counts.{fieldCount, columnCount, rowsMost}
 use Rattle.layout.specs.List.{rows, rowAt}
 use Rattle.rows.specs.Tests.{rowsTest}
 use Rattle.rowwise.specs.Ready.{PushReady}
-use Rattle.rowwise.specs.WorkOut.{Worked, finished, refused}
+use Rattle.rowwise.specs.WorkOut.{Worked, finished, refused, workOut}
 use Rattle.rowwise.specs.Working.{Unworked, Working}
+use Rattle.path.specs.declared.HowFar.{HowFar}
+use Rattle.path.specs.declared.HowFar.the-variants.{Rows, Refused}
 use Rattle.path.specs.Path.{onPath}
 use Rattle.path.specs.CardTest.{cardTest}
 
@@ -45,15 +46,19 @@ pub record RestReady (l : List ℕ) (i : ℕ) (c s : List ℕ) : Type 0 where
   pub card-tested : cardTest l c ≡ Passed
   pub unworked : Unworked l c s
 
--- the answer of a working out that began on the card c, and the card after it
-unfoldable pub testedOf : Worked → Tested
-testedOf (finished c′) = Passed
-testedOf (refused a) = Refused a
+-- how far the rows `is` went, worked out from the card c, and the card after it: refused, it is the card as it was
+unfoldable pub farOf : List ℕ → Worked → HowFar
+farOf is (finished c′) = Rows (length is)
+farOf is (refused a) = Refused a
 
 unfoldable pub cardOf : List ℕ → Worked → List ℕ
 cardOf c (finished c′) = c′
 cardOf c (refused a) = c
 
-pub record Reworked (w : Worked) (c : List ℕ) (t : Tested) (c′ : List ℕ) : Type 0 where
-  pub answer : t ≡ testedOf w
+pub record Reworked (is : List ℕ) (w : Worked) (c : List ℕ) (f : HowFar) (c′ : List ℕ) : Type 0 where
+  pub far : f ≡ farOf is w
   pub card : c′ ≡ cardOf c w
+
+-- the rows `is` worked out on the card c
+abbrev pub WorkedOut : List ℕ → List ℕ → List ℕ → HowFar → List ℕ → Type 0
+WorkedOut l is c f c′ = Reworked is (workOut l is c) c f c′

@@ -1,9 +1,11 @@
-// A row's path worked out again on a lent card: the tests of the card's numbers, and the climb from the row to the source [01 §4].
+// A row's path worked out again on a lent card: the tests of the card's numbers, and the climb from the row towards the source [01 §4],
+// up to the first feeding row that comes out as it was [02 §8].
 use answers::Answer;
 use answers::Tested;
 use fold::Found;
 use layout::AT_FEEDER;
 use layout::COLUMNS;
+use layout::CardRow;
 use layout::FIELDS;
 use layout::card_row_at;
 use layout::column_at;
@@ -12,23 +14,30 @@ use layout::field_at;
 use layout::in_bounds;
 use layout::put_card_row;
 use layout::row_at;
+use layout::same_card_row;
 use rowwise::SUMS;
 use rowwise::push;
 use rowwise::work_row;
 ghost use mathlib.Core.Path.{_≡_};
-ghost use mathlib.Core.Bool.{not};
+ghost use mathlib.Core.Bool.{not, _&&_};
 ghost use Prim.Native.Nat.{_+_, _*_, _<_, _≤_};
 ghost use lib.ListN.{length};
 ghost use Rattle.layout.specs.Counts.{columnCount};
 ghost use Rattle.fold.specs.First.{first};
-ghost use Rattle.layout.specs.Card.{cardRowAt, columnBounds};
+ghost use Rattle.layout.specs.Card.{cardRowAt, columnBounds, sameCardRow};
 ghost use Rattle.layout.specs.List.{rows, rowAt};
 ghost use Rattle.rowwise.specs.Sums.{pushed};
-ghost use Rattle.rowwise.specs.WorkOut.{workOut};
 ghost use Rattle.rowwise.specs.Working.{Working};
 ghost use Rattle.path.specs.Path.{pathOf, onPath, aboveOf};
+ghost use Rattle.path.specs.Reach.{reach, reachFrom};
 ghost use Rattle.path.specs.CardTest.{cardRight, cardTest};
-ghost use Rattle.path.specs.Ready.{FoundReady, ClimbReady, RestReady, PathReady, Reworked};
+ghost use Rattle.path.specs.Ready.{FoundReady, ClimbReady, RestReady, PathReady, WorkedOut};
+
+// How far a working out went: so many rows, or refused.
+pub enum HowFar {
+    Rows(u64),
+    Refused(Answer),
+}
 
 // The table goes by reference, as that of the fields does.
 fn card_right(card: &[u64], table: &[u64], j: usize) -> bool
@@ -113,34 +122,51 @@ fn push_rest(list: &[u64], i: usize, card: &[u64], sums: &mut [u64])
     }
 }
 
-// Works out row i and then the path of its feeding row. A refusal above puts the row's old numbers back.
-fn climb(list: &[u64], i: usize, card: &mut [u64], sums: &mut [u64]) -> Tested
+// Row i may stop the climb, and stands on the card as it was.
+fn stays(card: &[u64], i: usize, old: CardRow, stops: bool) -> bool
+    requires { ⌜ i * columnCount + columnCount ≤ length (now card) ⌝ }
+    ensures { λ r. ⌜ r ≡ (stops && sameCardRow old (cardRowAt (now (card .entry)) i)) ⌝ }
+{
+    if !stops {
+        return false;
+    }
+    same_card_row(old, card_row_at(card, i))
+}
+
+// Works out row i and then, unless it may stop the climb and comes out as it was, the path of its feeding row. A refusal above puts
+// the row's old numbers back.
+fn climb(list: &[u64], i: usize, card: &mut [u64], sums: &mut [u64], stops: bool) -> HowFar
     requires { ⌜ ClimbReady (now list) i (now card) (now sums) ⌝ }
-    ensures { λ t. ⌜ Reworked (workOut (now (list .entry)) (pathOf (now (list .entry)) i) (now (card .entry))) (now (card .entry)) t (now (card .exit)) ⌝ }
+    ensures { λ f. ⌜ WorkedOut (now (list .entry)) (reachFrom (now (list .entry)) stops (pathOf (now (list .entry)) i) (now (card .entry)))
+        (now (card .entry)) f (now (card .exit)) ⌝ }
 {
     let old = card_row_at(card, i);
     let own = work_row(list, i, card, sums);
     if let Tested::Refused(a) = own {
-        return Tested::Refused(a);
+        return HowFar::Refused(a);
+    }
+    if stays(card, i, old, stops) {
+        return HowFar::Rows(1);
     }
     let feeder = field_at(list, i, AT_FEEDER);
     if feeder == 0 {
-        return Tested::Passed;
+        return HowFar::Rows(1);
     }
-    let rest = climb(list, (feeder - 1) as usize, card, sums);
-    if let Tested::Refused(a) = rest {
-        put_card_row(card, i, old);
-        return Tested::Refused(a);
+    match climb(list, (feeder - 1) as usize, card, sums, true) {
+        HowFar::Refused(a) => {
+            put_card_row(card, i, old);
+            HowFar::Refused(a)
+        }
+        HowFar::Rows(n) => HowFar::Rows(n + 1),
     }
-    Tested::Passed
 }
 
-// 11, 12 or 13 before 7 along the path of row i.
-pub fn work_path(list: &[u64], i: usize, card: &mut [u64]) -> Tested
+// 11, 12 or 13 before 7 along the path of row i, which is the replaced one and never stops the climb.
+pub fn work_path(list: &[u64], i: usize, card: &mut [u64]) -> HowFar
     requires { ⌜ PathReady (now list) i (now card) ⌝ }
-    ensures { λ t. ⌜ Reworked (workOut (now (list .entry)) (pathOf (now (list .entry)) i) (now (card .entry))) (now (card .entry)) t (now (card .exit)) ⌝ }
+    ensures { λ f. ⌜ WorkedOut (now (list .entry)) (reach (now (list .entry)) i (now (card .entry))) (now (card .entry)) f (now (card .exit)) ⌝ }
 {
     let mut sums = [0u64; SUMS];
     push_rest(list, i, card, &mut sums);
-    climb(list, i, card, &mut sums)
+    climb(list, i, card, &mut sums, false)
 }

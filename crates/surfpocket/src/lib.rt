@@ -29,6 +29,12 @@ pub struct SurfpocketAnswer {
 }
 
 #[repr(C)]
+pub struct SurfpocketReplacement {
+    pub numbers: [u64; NUMBERS],
+    pub rows: u64,
+}
+
+#[repr(C)]
 pub struct SurfpocketStudy {
     pub number: u64,
     pub place: u64,
@@ -59,7 +65,7 @@ pub struct SurfpocketPrinted {
 }
 
 // It grows with every change of what is lent or given.
-const VERSION: u64 = 4;
+const VERSION: u64 = 5;
 
 #[no_mangle]
 pub extern "C" fn surfpocket_version() -> u64
@@ -78,18 +84,22 @@ pub extern "C" fn surfpocket_whole(list: &[u64], card: &mut [u64]) -> Surfpocket
     }
 }
 
-// The replacement of one row [01 §4].
+// The replacement of one row [01 §4], and how far it went [02 §8].
 #[no_mangle]
 pub extern "C" fn surfpocket_replace(
     list: &mut [u64],
     card: &mut [u64],
     place: u64,
     row: &[u64],
-) -> SurfpocketAnswer
-    ensures { λ a. ⌜ GaveBoth (replaced (now (list .entry)) (now (card .entry)) place (now (row .entry))) (a .numbers) (now (list .exit)) (now (card .exit)) ⌝ }
+) -> SurfpocketReplacement
+    ensures { λ a. ⌜ GaveBoth (replaced (now (list .entry)) (now (card .entry)) place (now (row .entry))) (a .numbers) (a .rows)
+        (now (list .exit)) (now (card .exit)) ⌝ }
 {
-    SurfpocketAnswer {
-        numbers: replace(list, card, place, row),
+    let given = replace(list, card, place, row);
+    let numbers = given.numbers;
+    SurfpocketReplacement {
+        numbers,
+        rows: given.rows,
     }
 }
 

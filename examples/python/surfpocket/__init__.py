@@ -24,6 +24,10 @@ class Answer(ctypes.Structure):
     _fields_ = members("number place field")
 
 
+class Replacement(ctypes.Structure):
+    _fields_ = members("number place field rows")
+
+
 class Study(ctypes.Structure):
     _fields_ = members("number place greatest least greatest_lower greatest_upper least_lower least_upper")
 
@@ -44,7 +48,7 @@ def load():
     library.surfpocket_whole.argtypes = [pointer, size, pointer, size]
     library.surfpocket_whole.restype = Answer
     library.surfpocket_replace.argtypes = [pointer, size, pointer, size, number, pointer, size]
-    library.surfpocket_replace.restype = Answer
+    library.surfpocket_replace.restype = Replacement
     library.surfpocket_study.argtypes = [number, ctypes.c_float, number] * 2
     library.surfpocket_study.restype = Study
     library.surfpocket_differential.argtypes = [number] * 8

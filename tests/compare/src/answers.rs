@@ -1,10 +1,11 @@
-//! Answers in their three numbers [01 §4, 02 §2, §11]: what they are called, when two
-//! agree, and which must turn up.
+//! Answers in their three numbers [01 §4, 02 §2, §11], and the rows that a replacement
+//! worked out [02 §8]: what they are called, when two agree, and which must turn up.
 
 use crate::boundary;
 use crate::run::{Item, Score};
 use second::answer::*;
 use second::differential::{BLOCKED, HOLD, TRIP};
+use second::replace::Replaced;
 use second::row::Row;
 
 /// Every number but 0; 6 is retired, and 14 and 15 are not given yet.
@@ -38,6 +39,13 @@ pub fn name_of(number: u64) -> &'static str {
 /// the third one not 0 exactly where it names something.
 pub fn agree(given: Answer, expected: Answer) -> bool {
     given == expected && (given.field != 0) == NAMING.contains(&given.number)
+}
+
+/// As `agree`, and in the rows worked out, which are not 0 exactly where it is done.
+pub fn agree_in_rows(given: Replaced, expected: Replaced) -> bool {
+    agree(given.answer, expected.answer)
+        && given.rows == expected.rows
+        && (given.rows != 0) == (given.answer == Answer::DONE)
 }
 
 /// The answer by its number; BACKUP with 1 where an earlier row is fed there too.

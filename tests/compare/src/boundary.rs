@@ -2,6 +2,7 @@
 
 use second::answer::Answer;
 use second::differential::{DifferentialAnswer, Inputs};
+use second::replace::Replaced;
 use second::study::{Current, StudyAnswer};
 use std::ptr;
 
@@ -10,6 +11,14 @@ struct SurfpocketAnswer {
     number: u64,
     place: u64,
     field: u64,
+}
+
+#[repr(C)]
+struct SurfpocketReplacement {
+    number: u64,
+    place: u64,
+    field: u64,
+    rows: u64,
 }
 
 #[repr(C)]
@@ -62,7 +71,7 @@ extern "C" {
         place: u64,
         row: *const u64,
         row_length: usize,
-    ) -> SurfpocketAnswer;
+    ) -> SurfpocketReplacement;
 
     fn surfpocket_study(
         greatest_unit: u64,
@@ -109,21 +118,20 @@ fn pointer_mut<T>(lent: &mut [T]) -> *mut T {
     }
 }
 
-fn answered(given: SurfpocketAnswer) -> Answer {
-    Answer { number: given.number, place: given.place, field: given.field }
-}
-
 pub fn whole(list: &[u64], card: &mut [u64]) -> Answer {
     let (l, c) = (pointer(list), pointer_mut(card));
     // SAFETY: both slices are valid for their lengths, and the function is
     // proved to read and write nothing else.
-    answered(unsafe { surfpocket_whole(l, list.len(), c, card.len()) })
+    let given = unsafe { surfpocket_whole(l, list.len(), c, card.len()) };
+    Answer { number: given.number, place: given.place, field: given.field }
 }
 
-pub fn replace(list: &mut [u64], card: &mut [u64], place: u64, row: &[u64]) -> Answer {
+pub fn replace(list: &mut [u64], card: &mut [u64], place: u64, row: &[u64]) -> Replaced {
     let (l, c, r) = (pointer_mut(list), pointer_mut(card), pointer(row));
     // SAFETY: as above; the three slices do not overlap.
-    answered(unsafe { surfpocket_replace(l, list.len(), c, card.len(), place, r, row.len()) })
+    let given = unsafe { surfpocket_replace(l, list.len(), c, card.len(), place, r, row.len()) };
+    let answer = Answer { number: given.number, place: given.place, field: given.field };
+    Replaced { answer, rows: given.rows }
 }
 
 /// A reading as the boundary takes it: the unit by number, the single by bits.

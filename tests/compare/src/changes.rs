@@ -1,13 +1,14 @@
-//! Replacements, one by one and in series beside the ledger [01 §4, 02 §2].
+//! Replacements, one by one and in series beside the ledger [01 §4, 02 §2, §8].
 
-use crate::answers::{agree, item_of, items_of, label};
+use crate::answers::{agree_in_rows, item_of, items_of, label};
 use crate::boundary;
+use crate::climbs::Climb;
 use crate::lists::{each_side, row_count, ACCEPTED_ROWS, EQUALITIES, ONE_OFF};
 use crate::run::{Found, Group, Kind, Score, Seen};
 use second::answer::*;
 use second::generate::*;
-use second::replace::{replace, Ledger};
-use second::row::{Row, CARD_NUMBERS, FIELDS, MOST_CURRENT, MOST_DELAY};
+use second::replace::{replace, Ledger, Replaced};
+use second::row::{Row, CARD_NUMBERS, FIELDS};
 use second::whole::{whole, Settings};
 
 const NUMBERS: Group = Group {
@@ -53,7 +54,7 @@ pub const KINDS: [Kind; 5] = [
     Kind { name: "replacements at equality", cases: 600, case: equality },
     Kind { name: "series beside the ledger", cases: 20_000, case: course },
     Kind { name: "long series beside the ledger", cases: 200, case: long_course },
-    Kind { name: "series on foreign cards", cases: 5_000, case: foreign },
+    Kind { name: "series on foreign cards", cases: 5_000, case: foreign_course },
 ];
 
 /// At least a third of the replacements in series must be refused.
@@ -70,18 +71,18 @@ fn one(_: u64, seed: u64, seen: &mut Seen) -> Found {
 }
 
 /// Both programs on the same list, card and change. They must agree in number,
-/// place, field and every number of list and card.
+/// place, field, rows worked out and every number of list and card.
 pub fn same(lent: &Replacement, seen: &mut Seen) -> Result<Answer, String> {
     let Change { place, row } = &lent.change;
     let (mut list, mut card) = (lent.list.clone(), lent.card.clone());
     let (mut list2, mut card2) = (lent.list.clone(), lent.card.clone());
-    let answer = boundary::replace(&mut list, &mut card, *place, row);
+    let given = boundary::replace(&mut list, &mut card, *place, row);
     let expected = replace(&mut list2, &mut card2, *place, row);
-    if !agree(answer, expected) || list != list2 || card != card2 {
-        return Err(format!("{answer:?}, not {expected:?}, or the buffers differ: {lent:?}"));
+    if !agree_in_rows(given, expected) || list != list2 || card != card2 {
+        return Err(format!("{given:?}, not {expected:?}, or the buffers differ: {lent:?}"));
     }
-    note(&NUMBERS, &list, answer, seen);
-    Ok(answer)
+    note(&NUMBERS, &list, given.answer, seen);
+    Ok(given.answer)
 }
 
 fn note(group: &Group, list: &[u64], answer: Answer, seen: &mut Seen) {
@@ -125,37 +126,35 @@ fn long_course(_: u64, seed: u64, seen: &mut Seen) -> Found {
     beside_ledger(seed, 300, seen)
 }
 
-/// Every answer is the ledger's; after the series so is the list, and the card
-/// is what the whole calculation of that list leaves in the card of the start.
-/// Where a device alone was replaced, the series up to there is judged too.
+/// Every answer is the ledger's, and so are the rows worked out, which it has from
+/// whole calculations alone. After each replacement the series up to there is
+/// judged: the list is the ledger's, and the card is what the whole calculation of
+/// that list leaves in the card of the start.
 fn beside_ledger(seed: u64, length: usize, seen: &mut Seen) -> Found {
     let (mut list, start, mut card) = accepted(seed);
-    seen.note(&ROWS, row_count(&list));
+    seen.note(&ROWS, row_count((list.len() / FIELDS) as u64));
     let mut ledger = Ledger::new(&list);
     for (step, change) in series(&list.clone(), length, seed).iter().enumerate() {
         let (before, by_device) = (card.clone(), is_device_alone(&list, change));
-        let answer = boundary::replace(&mut list, &mut card, change.place, &change.row);
-        let expected = ledger.feed(change.place, &change.row);
-        if !agree(answer, expected) {
-            return Err(format!("{answer:?}, not {expected:?}, at step {step} of series {seed}"));
+        let given = boundary::replace(&mut list, &mut card, change.place, &change.row);
+        let answer = ledger.feed(change.place, &change.row);
+        let expected = Replaced { answer, rows: ledger.rows() };
+        if !agree_in_rows(given, expected) {
+            return Err(format!("{given:?}, not {expected:?}, at step {step} of series {seed}"));
+        }
+        if list != ledger.list() || card != ledger.card_in(&start) {
+            return Err(format!("list or card differ after step {step} of series {seed}"));
         }
         note(&IN_SERIES, &list, answer, seen);
+        if answer == Answer::DONE {
+            Climb::new(&list, change.place, given.rows, [&before, &card]).note_in_series(seen);
+        }
         if by_device && change.row[1] != 0 {
             let effect = |row| effect_on(row, answer, &before, &card);
             seen.note(&BY_DEVICE, (effect(change.place), effect(change.row[1])));
         }
-        let is_judged = by_device || step + 1 == length;
-        if is_judged && !is_as_afresh(&list, &card, &ledger, &start) {
-            return Err(format!("list or card differ after step {step} of series {seed}"));
-        }
     }
     Ok(())
-}
-
-fn is_as_afresh(list: &[u64], card: &[u64], ledger: &Ledger, start: &[u64]) -> bool {
-    let mut afresh = start.to_vec();
-    let answer = whole(ledger.list(), &mut afresh);
-    answer == Answer::DONE && list == ledger.list() && card == afresh
 }
 
 /// Whether the new row is the list's with another device.
@@ -178,27 +177,25 @@ fn effect_on(row: u64, answer: Answer, before: &[u64], after: &[u64]) -> u64 {
     u64::from(delay(before) != delay(after))
 }
 
-/// After each replacement the answer, the list and the card are the second program's.
-fn foreign(_: u64, seed: u64, seen: &mut Seen) -> Found {
-    let (mut list, _, mut card) = accepted(seed);
-    let mut rng = Rng::new(!seed);
-    let end = CARD_NUMBERS * list.len() / FIELDS;
-    for set in card[..end].chunks_exact_mut(CARD_NUMBERS) {
-        if rng.chance(30) {
-            set[0] = rng.between(1.max(set[0] / 2), MOST_CURRENT.min(set[0] * 2));
-            set[1] = rng.between(set[1] / 2, MOST_DELAY.min(set[1] * 2));
-        }
-    }
+/// After each replacement the answer, the rows worked out, the list and the card are
+/// the second program's.
+fn foreign_course(_: u64, seed: u64, seen: &mut Seen) -> Found {
+    let Lent { mut list, mut card } = foreign(seed);
     let (mut list2, mut card2) = (list.clone(), card.clone());
-    for (step, change) in series(&list.clone(), 12, seed).iter().enumerate() {
-        let answer = boundary::replace(&mut list, &mut card, change.place, &change.row);
-        let expected = replace(&mut list2, &mut card2, change.place, &change.row);
-        if !agree(answer, expected) || list != list2 || card != card2 {
+    let mut rng = Rng::new(!seed);
+    for step in 0..12 {
+        let (before, Change { place, row }) = (card.clone(), change(&list, rng.any()));
+        let given = boundary::replace(&mut list, &mut card, place, &row);
+        let expected = replace(&mut list2, &mut card2, place, &row);
+        if !agree_in_rows(given, expected) || list != list2 || card != card2 {
             return Err(format!(
-                "{answer:?}, not {expected:?}, or the buffers differ: step {step}, seed {seed}"
+                "{given:?}, not {expected:?}, or the buffers differ: step {step}, seed {seed}"
             ));
         }
-        note(&ON_FOREIGN, &list, answer, seen);
+        note(&ON_FOREIGN, &list, given.answer, seen);
+        if given.answer == Answer::DONE {
+            Climb::new(&list, place, given.rows, [&before, &card]).note_on_foreign(seen);
+        }
     }
     Ok(())
 }

@@ -8,7 +8,7 @@ use crate::run::{Found, Group, Item, Kind, Seen};
 use crate::{changes, lists};
 use second::answer::*;
 use second::generate::{Change, Lent, Replacement, Rng};
-use second::row::FIELDS;
+use second::row::{path_of, CARD_NUMBERS, FIELDS};
 
 /// The order for a replacement, stage by stage; for a whole calculation it is
 /// the same without EDIT and CARD. Each stage goes over the rows ascending; the
@@ -178,10 +178,11 @@ impl Made {
 
 fn replacement_twice(_: u64, seed: u64, seen: &mut Seen) -> Found {
     let mut rng = Rng::new(seed);
-    let (list, _, card) = changes::accepted(rng.any());
+    let (list, _, mut card) = changes::accepted(rng.any());
     let rows: Vec<u64> = (1..=(list.len() / FIELDS) as u64).collect();
     let place = rng.pick(&rows);
     let path = path_of(&list, place);
+    unsettle(&mut card, &path);
     let old = list[(place as usize - 1) * FIELDS..][..FIELDS].to_vec();
     let mut made = Made { lent: Lent { list, card }, place, old, wrong: None };
     let reached = |number, made: &Made| {
@@ -204,8 +205,11 @@ fn replacement_twice(_: u64, seed: u64, seen: &mut Seen) -> Found {
     Ok(())
 }
 
-/// The row and the path of its feeding row.
-fn path_of(list: &[u64], place: u64) -> Vec<u64> {
-    let feeder = |&row: &u64| Some(list[(row as usize - 1) * FIELDS + 1]).filter(|&row| row != 0);
-    std::iter::successors(Some(place), feeder).collect()
+/// Lends other cutoffs along the path, which no other row heeds, so that no row
+/// stops the climb before it comes to a fault [02 §8].
+fn unsettle(card: &mut [u64], path: &[u64]) {
+    for &row in path {
+        let cutoff = &mut card[row as usize * CARD_NUMBERS - 1];
+        *cutoff = cutoff.checked_sub(1).unwrap_or(1);
+    }
 }

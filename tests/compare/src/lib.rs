@@ -6,6 +6,7 @@ pub mod boundary;
 pub mod bounded_texts;
 pub mod causes;
 pub mod changes;
+pub mod climbs;
 pub mod competing;
 pub mod differentials;
 pub mod faults;

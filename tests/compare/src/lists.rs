@@ -101,9 +101,8 @@ pub fn same(lent: &Lent, seen: &mut Seen) -> Result<Answer, String> {
     Ok(answer)
 }
 
-/// The item of ACCEPTED_ROWS that the list's rows belong to.
-pub fn row_count(list: &[u64]) -> Item {
-    let rows = (list.len() / FIELDS) as u64;
+/// The item of ACCEPTED_ROWS that so many rows belong to.
+pub fn row_count(rows: u64) -> Item {
     let counts = ROW_COUNTS.into_iter().find(|&(least, most)| least <= rows && rows <= most);
     counts.expect("1 to 256 rows")
 }
@@ -116,7 +115,7 @@ fn note(list: &[u64], answer: Answer, seen: &mut Seen) {
     }
     if answer == Answer::DONE {
         seen.accepted += 1;
-        seen.note(&ACCEPTED_ROWS, row_count(list));
+        seen.note(&ACCEPTED_ROWS, row_count((list.len() / FIELDS) as u64));
         let one = list.chunks(FIELDS).all(|row| row[3] == list[3]);
         seen.note(&ACCEPTED_VOLTS, (if one { 1 } else { 2 }, 0));
     }

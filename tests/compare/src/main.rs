@@ -5,7 +5,8 @@
 use compare::run::{Score, Seen};
 use compare::singles::{self, Part};
 use compare::{
-    answers, boundary, causes, changes, competing, differentials, lists, studies, texts, verdicts,
+    answers, boundary, causes, changes, climbs, competing, differentials, lists, studies, texts,
+    verdicts,
 };
 use std::process::ExitCode;
 use std::time::{Instant, SystemTime, UNIX_EPOCH};
@@ -78,6 +79,7 @@ fn compare_all(seed: u64, Length { passes, all_singles }: Length) -> ExitCode {
     score.run(&[causes::REPLACEMENTS, competing::REPLACEMENTS], seed, passes, &mut change);
     score.check_all(&changes::GROUPS, &change);
     changes::check_refused(&mut score, &change);
+    score.check_all(&climbs::GROUPS, &change);
     score.check(&causes::IN_REPLACEMENTS, &change);
     score.check_all(&competing::OF_REPLACEMENTS, &change);
     score.run(&studies::KINDS, seed, passes, &mut study);

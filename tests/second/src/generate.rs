@@ -13,7 +13,7 @@ pub use causes::{refused_for, Cause, Refused, CAUSES};
 pub use damage::{corners, damaged, field_bounds, lent_card, Lent};
 pub use edges::{at_equality, Condition, CONDITIONS};
 pub use lists::{list, list_shaped, zone_bound, Shape, SHAPES};
-pub use replacements::{change, replacement, series, Change, Replacement};
+pub use replacements::{change, foreign, replacement, series, Change, Replacement};
 pub use texts::{byte_damages, damaged_text, sized_text, text};
 pub use tiny::tiny;
 

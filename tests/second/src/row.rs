@@ -138,6 +138,14 @@ fn feeder_is_right(rows: &[Row], fed: &Row) -> bool {
         && rows[fed.feeds_from as usize - 1].kind != MOTOR
 }
 
+/// The row at the place and then the path of its feeding row, in a list whose
+/// feeders are right [01 §2].
+pub fn path_of(list: &[u64], place: u64) -> Vec<u64> {
+    let rows = list.as_chunks::<FIELDS>().0;
+    let feeder = |&row: &u64| Row::read(&rows[row as usize - 1]).feeds_from;
+    std::iter::successors(Some(place), |row| Some(feeder(row)).filter(|&row| row != 0)).collect()
+}
+
 /// A list as numbers.
 pub fn numbers_of(rows: &[Row]) -> Vec<u64> {
     rows.iter().flat_map(Row::numbers).collect()

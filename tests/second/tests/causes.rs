@@ -143,7 +143,7 @@ fn check(cases: &[(&[Change], Answer)]) {
         if whole(&lent, &mut [0; 9]) == DONE {
             assert_eq!(Ledger::new(&lent).feed(place as u64, &list[row.clone()]), answer);
         }
-        let given = replace(&mut lent, &mut CARD.clone(), place as u64, &list[row]);
+        let given = replace(&mut lent, &mut CARD.clone(), place as u64, &list[row]).answer;
         assert_eq!(given, answer, "{changes:?}");
     }
 }
@@ -188,7 +188,7 @@ fn backup_by_the_card_as_found() {
     let lent = changed(&[(1, FAR, 250_803), (3, FAR, 400_000)]);
     for (far, answer) in [(250_803, DONE), (250_802, backup(2))] {
         let row = &changed(&[(2, FAR, far)])[FIELDS..2 * FIELDS];
-        assert_eq!(replace(&mut lent.clone(), &mut card.clone(), 2, row), answer);
+        assert_eq!(replace(&mut lent.clone(), &mut card.clone(), 2, row).answer, answer);
     }
 }
 

@@ -3,7 +3,7 @@
 
 use second::answer::{Answer, BACKUP, DELAY, DONE, OWN_ZONE, RANGE};
 use second::generate::*;
-use second::replace::{replace, Ledger};
+use second::replace::{replace, Ledger, Replaced};
 use second::row::{Row, CARD_NUMBERS, FIELDS, MOST_CURRENT};
 use second::study::{study, Current, Reading, StudyAnswer, Unit};
 use second::whole::{fed_rows, settle, whole, Settings};
@@ -170,8 +170,9 @@ fn run_series(list: &[u64], seed: u64, seen: &mut BTreeMap<u64, u64>) {
     }
     let mut ledger = Ledger::new(&list);
     for Change { place, row } in series(&list.clone(), 30, seed) {
-        let answer = replace(&mut list, &mut card, place, &row);
-        assert_eq!(answer, ledger.feed(place, &row), "seed {seed}");
+        let replaced = replace(&mut list, &mut card, place, &row);
+        let answer = ledger.feed(place, &row);
+        assert_eq!(replaced, Replaced { answer, rows: ledger.rows() }, "seed {seed}");
         assert_eq!(list, ledger.list(), "seed {seed}");
         let mut afresh = start.clone();
         assert_eq!(whole(&list, &mut afresh), Answer::DONE, "seed {seed}");
@@ -199,8 +200,8 @@ fn refused_replacements_change_nothing() {
     for seed in 0..2_000 {
         let lent = replacement(seed);
         let (mut list, mut card) = (lent.list.clone(), lent.card.clone());
-        let answer = replace(&mut list, &mut card, lent.change.place, &lent.change.row);
-        if answer != Answer::DONE {
+        let replaced = replace(&mut list, &mut card, lent.change.place, &lent.change.row);
+        if replaced.answer != Answer::DONE {
             assert_eq!((list, card), (lent.list, lent.card), "seed {seed}");
         }
     }

@@ -65,7 +65,7 @@ fn replacements_give_every_number_and_field() {
     let (mut seen, mut fields) = (Seen::new(), Seen::new());
     for seed in 0..6_000 {
         let Replacement { mut list, mut card, change } = replacement(seed);
-        let answer = replace(&mut list, &mut card, change.place, &change.row);
+        let answer = replace(&mut list, &mut card, change.place, &change.row).answer;
         note_field(&mut fields, answer);
         count(&mut seen, answer.number);
     }

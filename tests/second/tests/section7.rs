@@ -4,7 +4,7 @@
 use second::answer::{Answer, DELAY, OWN_ZONE};
 use second::conditions::{stays_clear_of_fed_rows, Fed};
 use second::fast;
-use second::replace::{replace, Ledger};
+use second::replace::{replace, Ledger, Replaced};
 use second::row::{field::*, numbers_of, Row, FIELDS};
 use second::whole::{whole, Settings};
 
@@ -104,7 +104,7 @@ fn near_on_each_side() {
 fn row_1_work_replaced() {
     let (mut list, mut card) = (LIST, CARD);
     let new = with(1, WORK, 190_000);
-    assert_eq!(replace(&mut list, &mut card, 1, &new[..FIELDS]), Answer::DONE);
+    assert_eq!(replace(&mut list, &mut card, 1, &new[..FIELDS]), Replaced::done(2));
     assert_eq!(list.to_vec(), new);
     assert_eq!(card, [336_000, 1_900, 1_300_000, 370_000, 2_200, 4_290_000]);
     assert_eq!(carded(&new), (Answer::DONE, card.to_vec()));
@@ -114,7 +114,8 @@ fn row_1_work_replaced() {
 fn row_1_far_replaced() {
     let (mut list, mut card) = (LIST, CARD);
     let row = &with(1, FAR, 431_000)[..FIELDS];
-    assert_eq!(replace(&mut list, &mut card, 1, row), Answer::at(OWN_ZONE, 1));
+    let refused = Replaced::refused(Answer::at(OWN_ZONE, 1));
+    assert_eq!(replace(&mut list, &mut card, 1, row), refused);
     assert_eq!((list, card), (LIST, CARD));
     let mut ledger = Ledger::new(&LIST);
     assert_eq!(ledger.feed(1, row), Answer::at(OWN_ZONE, 1));
@@ -128,8 +129,9 @@ fn climb_goes_on_after_far_changed() {
     let mut card = vec![0; 6];
     assert_eq!(whole(&list, &mut card), Answer::DONE);
     let far = |far| with(1, FAR, far)[..FIELDS].to_vec();
-    assert_eq!(replace(&mut list, &mut card, 1, &far(551_999)), Answer::backup(2, 1));
-    assert_eq!(replace(&mut list, &mut card, 1, &far(552_000)), Answer::DONE);
+    let refused = Replaced::refused(Answer::backup(2, 1));
+    assert_eq!(replace(&mut list, &mut card, 1, &far(551_999)), refused);
+    assert_eq!(replace(&mut list, &mut card, 1, &far(552_000)), Replaced::done(2));
 }
 
 #[test]
@@ -182,7 +184,7 @@ fn climb_goes_on_after_work_changed() {
     let (mut list, mut card) = (two_fed_rows_list(90_000, 101_000), [0; 9]);
     assert_eq!(whole(&list, &mut card), Answer::DONE);
     let new = two_fed_rows_list(90_900, 101_000);
-    assert_eq!(replace(&mut list, &mut card, 2, &new[FIELDS..2 * FIELDS]), Answer::DONE);
+    assert_eq!(replace(&mut list, &mut card, 2, &new[FIELDS..2 * FIELDS]), Replaced::done(2));
     assert_eq!([card[0], card[3], card[6]], [100_000, 101_000, 209_990]);
 }
 
@@ -213,7 +215,7 @@ fn middle_device_replaced() {
         let (mut list, mut card, mut afresh) = (chain(3, last_floor), [0; 9], [0; 9]);
         assert_eq!(whole(&list, &mut card), Answer::DONE);
         let new = chain(device, last_floor);
-        assert_eq!(replace(&mut list, &mut card, 2, &new[FIELDS..2 * FIELDS]), Answer::DONE);
+        assert_eq!(replace(&mut list, &mut card, 2, &new[FIELDS..2 * FIELDS]), Replaced::done(2));
         assert_eq!([card[1], card[4], card[7]], delays);
         assert_eq!((fast::whole(&new, &mut afresh), afresh), (Answer::DONE, card));
     }

@@ -1,7 +1,7 @@
 //! The table of section 2 written out again, and the order of section 4.
 
 use second::answer::{Answer, CARD, COUNT, EDIT, OWN_ZONE, ROOM, TREE};
-use second::replace::replace;
+use second::replace::{replace, Replaced};
 use second::row::{numbers_of, Row, FIELDS};
 use second::whole::whole;
 
@@ -110,7 +110,7 @@ fn count_then_room_then_fields() {
 fn replacements_in_order() {
     let good = [2, 0, 0, 2, 0, 0, 4, 200, 0];
     let attempt = |list: &[u64], card: &[u64], place: u64, row: &[u64]| {
-        replace(&mut list.to_vec(), &mut card.to_vec(), place, row)
+        replace(&mut list.to_vec(), &mut card.to_vec(), place, row).answer
     };
     let row = |field: usize, value: u64| with(&[(2, field, value)])[FIELDS..2 * FIELDS].to_vec();
     let same = row(1, 2);
@@ -139,7 +139,7 @@ fn bounds_of_each_card_number() {
             let attempt = |value: u64| {
                 let mut card = [2, 0, 0, 2, 0, 0, 4, 200, 0];
                 card[3 * row + at] = value;
-                replace(&mut list(), &mut card, 3, &list()[2 * FIELDS..])
+                replace(&mut list(), &mut card, 3, &list()[2 * FIELDS..]).answer
             };
             let refused = Answer::at(CARD, row as u64 + 1);
             assert!(attempt(least) != refused && attempt(greatest) != refused);
@@ -154,14 +154,12 @@ fn bounds_of_each_card_number() {
 fn replacement_reads_the_card_as_found() {
     let mut card = [900, 1_000, 77, 2, 0, 0, 4, 200, 0];
     let mut made = list();
-    assert_eq!(
-        replace(&mut made, &mut card, 2, &list()[FIELDS..2 * FIELDS]),
-        Answer::at(OWN_ZONE, 3)
-    );
+    let refused = Replaced::refused(Answer::at(OWN_ZONE, 3));
+    assert_eq!(replace(&mut made, &mut card, 2, &list()[FIELDS..2 * FIELDS]), refused);
     let mut rows: Vec<Row> = list().as_chunks::<FIELDS>().0.iter().map(Row::read).collect();
     rows[2].far = 100_000;
     let mut made = numbers_of(&rows);
     let row = made[FIELDS..2 * FIELDS].to_vec();
-    assert_eq!(replace(&mut made, &mut card, 2, &row), Answer::DONE);
+    assert_eq!(replace(&mut made, &mut card, 2, &row), Replaced::done(2));
     assert_eq!(card, [900, 1_000, 77, 2, 0, 0, 992, 1_200, 0]);
 }

@@ -38,8 +38,8 @@ put-list-requires-2 c κs = search needs
 rework-requires : tie.Need-rework-requires
 rework-requires c κs = search needs
 
-enum-known-tested : tie.Need-enum-known-tested
-enum-known-tested c = search needs
+enum-known-far : tie.Need-enum-known-far
+enum-known-far c = search needs
 
 slice-aggregate-put-list-2 : tie.Need-slice-aggregate-put-list-2
 slice-aggregate-put-list-2 c = search needs
@@ -56,14 +56,14 @@ same-length-2 c = search needs
 returns : tie.Need-returns
 returns c =
     let at-put-list3 = c .before .before in
-    let at-tested = at-put-list3 .before .before .before .before in
-    let at-rework = at-tested .before .before .before .before in
+    let at-far = at-put-list3 .before .before .before .before in
+    let at-rework = at-far .before .before .before .before in
     let at-put-list2 = at-rework .before .before .before .before .before in
     let at-put-list = at-put-list2 .before .before .before in
     let at-23 = at-put-list .before .before .before .before .before in
     let start = at-23 .before .before in
     let a = start .pre in
-    exchange-refused _ _ _ _ _ (at-put-list2 .put-list2 .ensures) _ _ (at-rework .rework .ensures) _ (replicate fieldCount 0) _ _ (at-tested .tested .given .1)
+    exchange-refused _ _ _ _ _ (at-put-list2 .put-list2 .ensures) _ _ (at-rework .rework .ensures) _ (replicate fieldCount 0) _ _ (at-far .far .given .1)
     (record { in-list = omega (arith, a .rework .is-row); row-length = a .row-length }) refl (at-put-list .put-list .ensures) (at-put-list3 .put-list3 .ensures)
 
 enum-told : tie.Need-enum-told
@@ -79,7 +79,7 @@ returns-2 : tie.Need-returns-2
 returns-2 c =
     let at-rework = c .before .before .before .before in
     let at-put-list2 = at-rework .before .before .before .before .before in
-    exchange-done _ _ _ _ _ (at-put-list2 .put-list2 .ensures) _ _ (at-rework .rework .ensures) (c .enum-told .given .1)
+    exchange-done _ _ _ _ _ (at-put-list2 .put-list2 .ensures) _ _ (at-rework .rework .ensures) _ (c .enum-told .given .1)
 
 pub exchange-spec : {M : Type 1} → statement M
 exchange-spec =
@@ -95,7 +95,7 @@ exchange-spec =
     put-list-requires
     put-list-requires-2
     rework-requires
-    enum-known-tested
+    enum-known-far
     slice-aggregate-put-list-2
     put-list-requires-3
     same-length

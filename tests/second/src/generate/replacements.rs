@@ -1,10 +1,10 @@
 //! Replacements: changes that go, refused ones of every kind, and series of
 //! them [01 §4].
 
-use super::damage::{damaged, lent_card};
+use super::damage::{damaged, lent_card, Lent};
 use super::lists::{backup_bound, list, zone_bound};
 use super::{accepted, Rng};
-use crate::replace::Ledger;
+use crate::replace::{edited, Ledger};
 use crate::row::*;
 use crate::whole::{whole, Answer};
 
@@ -42,6 +42,9 @@ pub fn change(list: &[u64], seed: u64) -> Change {
     if rows.is_empty() {
         return Change { place: rng.below(2), row: lent_card(FIELDS, rng.any()) };
     }
+    if rng.chance(8) {
+        return far_going(&mut rng, Row::read(&rows[0]));
+    }
     let old = rng.pick(rows);
     let place = old[0];
     let mut row = Row::read(&old);
@@ -59,6 +62,19 @@ pub fn change(list: &[u64], seed: u64) -> Change {
         _ => return Change { place, row: nudged(&mut rng, old) },
     }
     Change { place, row: row.numbers().to_vec() }
+}
+
+/// The first row, whose path is a chain's longest, now asks less of the rows that
+/// feed it, which have room for that: lower pickups, shorter delays or both [02 §8].
+fn far_going(rng: &mut Rng, mut row: Row) -> Change {
+    let which = rng.below(3);
+    if which != 0 {
+        row.floor = row.floor.saturating_sub(rng.between(1, 20));
+    }
+    if which != 1 {
+        row.work -= row.work / rng.between(10, 100);
+    }
+    Change { place: row.row, row: row.numbers().to_vec() }
 }
 
 /// At an accepted list's own pickups: high, far for P3 or far for the feeding
@@ -151,5 +167,48 @@ fn disturb(rng: &mut Rng, card: &mut [u64]) {
         let near = (card[at].min(greatest) * rng.between(50, 150) / 100).clamp(least, greatest);
         let out = rng.pick(&[least.wrapping_sub(1), greatest + 1, u64::MAX]);
         card[at] = if in_bounds { rng.pick(&[near, near, least, greatest]) } else { out };
+    }
+}
+
+/// An accepted list and its card, with some rows of the list, of the card or of
+/// both then moved within their bounds, so that the card isn't the list's [02 §8].
+pub fn foreign(seed: u64) -> Lent {
+    let mut rng = Rng::new(seed);
+    loop {
+        let mut list = list(rng.any());
+        let end = CARD_NUMBERS * list.len() / FIELDS;
+        let mut card = lent_card(end + rng.below(4) as usize, rng.any());
+        if whole(&list, &mut card) == Answer::DONE {
+            let which = rng.below(3);
+            if which != 0 {
+                move_settings(&mut rng, &mut card[..end]);
+            }
+            if which != 1 {
+                move_rows(&mut rng, &mut list);
+            }
+            return Lent { list, card };
+        }
+    }
+}
+
+/// Changes that the card knows nothing of.
+fn move_rows(rng: &mut Rng, list: &mut [u64]) {
+    for _ in 0..rng.between(1, 3) {
+        let Change { place, row } = change(list, rng.any());
+        if let Some(made) = edited(list, place, &row).filter(|made| read_list(made).is_ok()) {
+            list.copy_from_slice(&made);
+        }
+    }
+}
+
+fn move_settings(rng: &mut Rng, card: &mut [u64]) {
+    for row in card.chunks_exact_mut(CARD_NUMBERS) {
+        let is_moved = rng.chance(30);
+        for (value, bound) in row.iter_mut().zip(&CARD_BOUNDS) {
+            if is_moved && rng.chance(60) {
+                let near = rng.between(*value / 2, 2 * *value + 1);
+                *value = near.clamp(bound.least, bound.greatest);
+            }
+        }
     }
 }
