@@ -6,6 +6,8 @@
 --     off-path-kept            done, card rows off the replaced row's path keep their numbers; so does what stands past the rows,
 --                              and the list outside the row: with any card
 --     refused-changes-nothing  a refused one changes nothing
+--     rows-to-visit            [02 §8] done on an accepted list and its card, the count is that of the rows up to the first feeding row,
+--                              after the replaced one, whose card row is the same by the whole calculations of both lists
 -- An accepted list l with its card c: `whole l c₀` is Done with card c, where c₀ is the card as it was lent.
 use mathlib.Core.Path.{_≡_, refl, sym, ap, ap₂, _∙_, subst}
 use mathlib.Core.Logic.{_↔_, ⊎-elim}
@@ -15,6 +17,7 @@ use lib.ListN.{length}
 use Rattle.fold.proofs.BoolLaws.{zero-not-one}
 use Rattle.answers.specs.declared.Answer.{Answer}
 use Rattle.answers.specs.declared.Answer.the-variants.{Done, Edit}
+use Rattle.layout.specs.Card.{cardRowAt}
 use Rattle.layout.specs.Counts.{columnCount}
 use Rattle.layout.specs.List.{rows}
 use Rattle.rows.specs.InRange.{RightSize, HasRoom, SizeGets}
@@ -22,6 +25,7 @@ use Rattle.rows.proofs.ExactLaws.{get-size}
 use Rattle.rowwise.specs.WorkOut.{Worked, finished, refused}
 use Rattle.calculate.specs.Whole.{Result, ending, whole}
 use Rattle.path.specs.Reach.{reach}
+use Rattle.change.specs.AnyCard.{Visits}
 use Rattle.change.specs.Claims.{AfterSeries, AsWhole, LeftAlone}
 use Rattle.change.specs.Edit.{putList, EditFits}
 use Rattle.change.specs.Gets.{ReplacementGets}
@@ -34,7 +38,8 @@ use Rattle.change.proofs.PutLaws.{putList-length, putList-before, putLi
 use Rattle.change.proofs.RefusalLaws.{Refuses, refuses-done, later-edit, reworked-later}
 use Rattle.change.proofs.SeriesLaws.{one-agrees, replaced-edited, replaced-made, whole-made, made, made-answer, made-refuses}
 use Rattle.change.proofs.AgainLaws.{series-again}
-use Rattle.change.proofs.Demand1.{replacement-gets}
+use Rattle.change.proofs.AnyCard.{path-visits}
+use Rattle.change.proofs.Demand1.{replacement-gets, done-passes}
 
 done-not-edit : Done ≡ Edit → ⊥
 done-not-edit e = zero-not-one cc
@@ -137,3 +142,12 @@ pub refused-changes-nothing :
     (l c : List ℕ) (place : ℕ) (row : List ℕ) → (replaced l c place row .answer ≡ Done → ⊥) →
     (replaced l c place row .list ≡ l) × (replaced l c place row .card ≡ c)
 refused-changes-nothing l c place row n = refused-keeps l c place row n
+
+pub rows-to-visit :
+    (l c₀ c : List ℕ) → whole l c₀ ≡ record { answer = Done; card = c } → (place : ℕ) (row : List ℕ) → replaced l c place row .answer ≡ Done →
+    Visits (putList l (place - 1) row) (place - 1) c (cardRowAt (whole (putList l (place - 1) row) c₀ .card)) (replaced l c place row .count)
+rows-to-visit l c₀ c g place row e =
+    let p = done-passes l c place row e in
+    let w = replaced-as-whole l c₀ c g place row (p .fits .edit) in
+    subst (λ (x : List ℕ). Visits (putList l (place - 1) row) (place - 1) c (cardRowAt x) (replaced l c place row .count)) (w .card-when-done e)
+    (path-visits l c place row p e)

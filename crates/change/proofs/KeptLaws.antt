@@ -27,7 +27,7 @@ use Rattle.rowwise.specs.WorkOut.{Worked, finished, refused, onSettled, workOut
 use Rattle.rowwise.proofs.EndLaws.{never-finished}
 use Rattle.path.specs.Path.{OnPath, pathOf, has, onPath}
 use Rattle.path.specs.Reach.{reach}
-use Rattle.path.proofs.ReachLaws.{reach-inside, reach-outside}
+use Rattle.path.proofs.ReachRowsLaws.{reach-inside, reach-outside}
 use Rattle.change.specs.Edit.{putList, EditFits, editTest}
 use Rattle.change.specs.Replace.{reworked, outcome, replaced}
 use Rattle.change.proofs.EditedLaws.{edited-rows, edited-is-row, edited-path}

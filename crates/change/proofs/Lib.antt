@@ -12,6 +12,7 @@ pub mod PathEndLaws
 pub mod PathLeastLaws
 pub mod PathOneLaws
 pub mod PutLaws
+pub mod ReachedLaws
 pub mod RefusalLaws
 pub mod ReworkLaws
 pub mod SeriesLaws

@@ -22,7 +22,8 @@ use Rattle.path.proofs.CardTestLaws.{get-card}
 use Rattle.change.specs.AnyCard.{PathRefused, NO-PICKUP, DELAY, Visits}
 use Rattle.change.specs.Gets.{made, Passes}
 use Rattle.change.specs.Replace.{Replaced, reworked, outcome, replaced}
-use Rattle.change.proofs.AlongLaws.{Climbed, climbed}
+use Rattle.change.proofs.ReachedLaws.{Climbed}
+use Rattle.change.proofs.AlongLaws.{climbed}
 use Rattle.change.proofs.EditedLaws.{edited-rows, edited-is-row}
 use Rattle.change.proofs.SeriesLaws.{replaced-edited}
 
@@ -71,7 +72,7 @@ module _ (l c : List ℕ) (place : ℕ) (row : List ℕ) (p : Passes l c place r
   ended = by-cases (climbed l′ bounded (p .feeds) (place - 1) is-row c room) works
     where
       by-cases :
-          {w : Worked} → Climbed l′ bounded (p .feeds) (place - 1) is-row c (place - 1) (reach l′ (place - 1) c) w →
+          {w : Worked} → Climbed l′ (place - 1) c (place - 1) (reach l′ (place - 1) c) w →
           replaced l c place row ≡ outcome l c l′ (place - 1) w → Ended
       by-cases (Climbed.worked-to c′ s w n) e =
           done (ap (λ (r : Replaced). r .answer) e)

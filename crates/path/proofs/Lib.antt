@@ -1,8 +1,10 @@
 pub mod CardTestLaws
 pub mod ClimbLaws
+pub mod ClimbUpLaws
 pub mod EndLaws
 pub mod OnPathLaws
 pub mod PathLaws
 pub mod PushLaws
 pub mod ReachLaws
+pub mod ReachRowsLaws
 pub mod RestLaws

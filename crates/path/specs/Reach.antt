@@ -1,29 +1,49 @@
 -- [02 §8] How far a change goes: "Stop climbing at the first feeding row, after the replaced one, whose new card row equals its old
--- one." The rows of a path that are worked out, one after the other as `workOut` does; what they come to, said by inequalities, is
--- in specs/AnyCard.antt of `change`. Definitions only.
+-- one." The rows of a path that are worked out, one after the other as `workOut` does. `Reaches` says it as a reader would; `reach`
+-- lists the same rows (proofs/ReachLaws.antt). What they come to, by inequalities, is in specs/AnyCard.antt of `change`. Rows are
+-- counted from 0. Definitions only.
+use mathlib.Core.Path.{_≡_}
 use mathlib.Core.Bool.{Bool, true, false, cond, _&&_}
 use mathlib.Core.List.{List, [], _∷_}
-use Prim.Native.Nat.{ℕ}
+use Prim.Native.Nat.{ℕ, _-_}
+use Rattle.answers.specs.declared.Reason.{Reason}
 use Rattle.layout.specs.declared.CardRow.{CardRow}
 use Rattle.layout.specs.Card.{cardRowAt, putCardRow, sameCardRow}
+use Rattle.layout.specs.Fields.{atFeeder}
+use Rattle.layout.specs.List.{field}
 use Rattle.layout.specs.View.{viewOf}
+use Rattle.settle.specs.declared.Outcome.{Outcome}
 use Rattle.settle.specs.declared.Settled.{Settled}
 use Rattle.settle.specs.declared.Settled.the-variants.{Set, Unset}
 use Rattle.settle.specs.Settle.{shown, settled}
 use Rattle.path.specs.Path.{pathOf}
 
--- the rows after one that was `old`, by what it comes to: none where it comes out as it was and may stop the climb, or is refused
+-- what row x comes to on the card c
+abbrev pub comesTo : List ℕ → ℕ → List ℕ → Settled
+comesTo l x c = settled (viewOf l) (cardRowAt c) x
+
+-- the rows worked out from row x on, on the card c; `feeding` is false where row x is the replaced one. Row x is the last of them where
+-- it is refused, where the source feeds it, and, if it is a feeding row, where it comes out as it was; otherwise the row that feeds it
+-- is next, on the card with row x put in
+pub data Reaches (l : List ℕ) : Bool → ℕ → List ℕ → List ℕ → Type 0 where
+  refused-there : (feeding : Bool) (x : ℕ) (c : List ℕ) (why : Reason) → comesTo l x c ≡ Unset why → Reaches l feeding x c (x ∷ [])
+  at-source : (feeding : Bool) (x : ℕ) (c : List ℕ) (o : Outcome) → comesTo l x c ≡ Set o → field l x atFeeder ≡ 0 → Reaches l feeding x c (x ∷ [])
+  as-it-was : (x : ℕ) (c : List ℕ) (o : Outcome) → comesTo l x c ≡ Set o → cardRowAt c x ≡ shown o → Reaches l true x c (x ∷ [])
+  goes-on :
+      (feeding : Bool) (x : ℕ) (c : List ℕ) (o : Outcome) (is : List ℕ) → comesTo l x c ≡ Set o → (field l x atFeeder ≡ 0 → ⊥) →
+      (feeding ≡ true → cardRowAt c x ≡ shown o → ⊥) → Reaches l true (field l x atFeeder - 1) (putCardRow c x (shown o)) is →
+      Reaches l feeding x c (x ∷ is)
+
+-- the rows after one that was `old`, by what it comes to
 unfoldable pub onward : Bool → CardRow → Settled → (CardRow → List ℕ) → List ℕ
-onward stops old (Set o) next = cond (stops && sameCardRow old (shown o)) [] (next (shown o))
-onward stops old (Unset why) next = []
+onward feeding old (Set o) next = cond (feeding && sameCardRow old (shown o)) [] (next (shown o))
+onward feeding old (Unset why) next = []
 
--- the rows of `is`, each fed by the one before it, that are worked out on the card c; the first may stop the climb if `stops` says so,
--- any other may
+-- the rows of `is`, each fed by the one before it, that are worked out on the card c
 unfoldable pub reachFrom : List ℕ → Bool → List ℕ → List ℕ → List ℕ
-reachFrom l stops [] c = []
-reachFrom l stops (i ∷ is) c =
-    i ∷ onward stops (cardRowAt c i) (settled (viewOf l) (cardRowAt c) i) (λ k. reachFrom l true is (putCardRow c i k))
+reachFrom l feeding [] c = []
+reachFrom l feeding (x ∷ is) c = x ∷ onward feeding (cardRowAt c x) (comesTo l x c) (λ k. reachFrom l true is (putCardRow c x k))
 
--- those of the path of the replaced row i, which never stops it
+-- those of the path of the replaced row i
 abbrev pub reach : List ℕ → ℕ → List ℕ → List ℕ
 reach l i c = reachFrom l false (pathOf l i) c

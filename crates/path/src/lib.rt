@@ -122,22 +122,22 @@ fn push_rest(list: &[u64], i: usize, card: &[u64], sums: &mut [u64])
     }
 }
 
-// Row i may stop the climb, and stands on the card as it was.
-fn stays(card: &[u64], i: usize, old: CardRow, stops: bool) -> bool
+// A feeding row that stands on the card as it was: it stops the climb.
+fn stays(card: &[u64], i: usize, old: CardRow, feeding: bool) -> bool
     requires { ⌜ i * columnCount + columnCount ≤ length (now card) ⌝ }
-    ensures { λ r. ⌜ r ≡ (stops && sameCardRow old (cardRowAt (now (card .entry)) i)) ⌝ }
+    ensures { λ r. ⌜ r ≡ (feeding && sameCardRow old (cardRowAt (now (card .entry)) i)) ⌝ }
 {
-    if !stops {
+    if !feeding {
         return false;
     }
     same_card_row(old, card_row_at(card, i))
 }
 
-// Works out row i and then, unless it may stop the climb and comes out as it was, the path of its feeding row. A refusal above puts
-// the row's old numbers back.
-fn climb(list: &[u64], i: usize, card: &mut [u64], sums: &mut [u64], stops: bool) -> HowFar
+// Works out row i and then, unless it is a feeding row that comes out as it was, the path of the row that feeds it. A refusal above
+// puts the row's old numbers back.
+fn climb(list: &[u64], i: usize, card: &mut [u64], sums: &mut [u64], feeding: bool) -> HowFar
     requires { ⌜ ClimbReady (now list) i (now card) (now sums) ⌝ }
-    ensures { λ f. ⌜ WorkedOut (now (list .entry)) (reachFrom (now (list .entry)) stops (pathOf (now (list .entry)) i) (now (card .entry)))
+    ensures { λ f. ⌜ WorkedOut (now (list .entry)) (reachFrom (now (list .entry)) feeding (pathOf (now (list .entry)) i) (now (card .entry)))
         (now (card .entry)) f (now (card .exit)) ⌝ }
 {
     let old = card_row_at(card, i);
@@ -145,8 +145,8 @@ fn climb(list: &[u64], i: usize, card: &mut [u64], sums: &mut [u64], stops: bool
     if let Tested::Refused(a) = own {
         return HowFar::Refused(a);
     }
-    if stays(card, i, old, stops) {
-        return HowFar::Rows(1);
+    if stays(card, i, old, feeding) {
+        return HowFar::Rows(1); // the stop counts
     }
     let feeder = field_at(list, i, AT_FEEDER);
     if feeder == 0 {
@@ -161,7 +161,7 @@ fn climb(list: &[u64], i: usize, card: &mut [u64], sums: &mut [u64], stops: bool
     }
 }
 
-// 11, 12 or 13 before 7 along the path of row i, which is the replaced one and never stops the climb.
+// 11, 12 or 13 before 7 along the path of row i, which is the replaced one and never feeding the climb.
 pub fn work_path(list: &[u64], i: usize, card: &mut [u64]) -> HowFar
     requires { ⌜ PathReady (now list) i (now card) ⌝ }
     ensures { λ f. ⌜ WorkedOut (now (list .entry)) (reach (now (list .entry)) i (now (card .entry))) (now (card .entry)) f (now (card .exit)) ⌝ }

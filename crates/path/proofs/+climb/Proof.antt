@@ -6,7 +6,8 @@ use Prim.Native.Nat.{ℕ, _-_, _<_}
 use borrow.Fn.Kinds.{In}
 use borrow.Fn.PlainCycle.{Measures, is, falls, and}
 use Rattle.layout.specs.List.{rows}
-use Rattle.path.proofs.ClimbLaws.{climb-works, climb-refused, climb-stops, climb-source, climb-on, climb-less, climb-back, climb-done, climb-counts}
+use Rattle.path.proofs.ClimbLaws.{climb-works, climb-refused, climb-passes}
+use Rattle.path.proofs.ClimbUpLaws.{climb-stops, climb-source, climb-on, climb-less, climb-back, climb-done, climb-counts}
 use Rattle.path.proofs.climb.Reads as climb
 use Rattle.path.proofs.climb.Kinds as climb-kinds
 use Rattle.path.proofs.+climb.Lts-climb as climb-lts
@@ -68,7 +69,7 @@ climb-returns t c =
     let at-work-row = at-6 .before in
     let at-12 = at-work-row .before .before .before .before .before in
     let start = at-12 .before .before .before in
-    climb-refused _ _ _ _ (start .pre .1) (start .args .stops) _ _ _ (at-work-row .work-row .ensures) _ (at-own .own .given .1)
+    climb-refused _ _ _ _ (start .pre .1) _ _ _ (at-work-row .work-row .ensures) (start .args .feeding) _ (at-own .own .given .1)
 
 climb-enum-told : (t : ℕ) → climb-lts.Need-enum-told (callees t) (climb-at t) climb.Post
 climb-enum-told t c = search needs
@@ -95,8 +96,8 @@ climb-returns-2 t c =
     let at-work-row = at-8 .before in
     let at-card-row-at = at-work-row .before .before .before in
     let start = at-card-row-at .before .before .before .before .before in
-    climb-stops _ _ _ _ (start .pre .1) (start .args .stops) _ _ _ (at-work-row .work-row .ensures)
-    (at-enum-told .enum-told .given .1) _ (at-card-row-at .card-row-at .ensures) _ (at-stays .stays .ensures) (c .if1 .taken)
+    let p = climb-passes _ _ _ _ (start .pre .1) _ _ _ (at-work-row .work-row .ensures) (at-enum-told .enum-told .given .1) in
+    climb-stops p (start .args .feeding) _ (at-card-row-at .card-row-at .ensures) _ (at-stays .stays .ensures) (c .if1 .taken)
 
 climb-field-at-requires : (t : ℕ) → climb-lts.Need-field-at-requires (callees t) (climb-at t) climb.Post
 climb-field-at-requires t c κs =
@@ -122,9 +123,9 @@ climb-returns-3 t c =
     let at-work-row = at-10 .before in
     let at-card-row-at = at-work-row .before .before .before in
     let start = at-card-row-at .before .before .before .before .before in
-    climb-source _ _ _ _ (start .pre .1) (start .args .stops) _ _ _ (at-work-row .work-row .ensures)
-    (at-enum-told .enum-told .given .1) _ (at-card-row-at .card-row-at .ensures) _ (at-stays .stays .ensures) (at-if1 .if1 .left)
-    _ (at-field-at .field-at .ensures) (c .if2 .taken)
+    let p = climb-passes _ _ _ _ (start .pre .1) _ _ _ (at-work-row .work-row .ensures) (at-enum-told .enum-told .given .1) in
+    climb-source p (start .args .feeding) _ (at-card-row-at .card-row-at .ensures) _ (at-stays .stays .ensures)
+    (at-if1 .if1 .left) _ (at-field-at .field-at .ensures) (c .if2 .taken)
 
 climb-sub-climb : (t : ℕ) → climb-lts.Need-sub-climb (callees t) (climb-at t) climb.Post
 climb-sub-climb t c = search needs
@@ -139,14 +140,13 @@ climb-climb-requires t c κs =
     let at-12 = at-enum-told .before .before .before .before .before in
     let at-work-row = at-12 .before in
     let at-card-row-at = at-work-row .before .before .before in
-    let start = at-card-row-at .before .before .before .before .before in (
+    let start = at-card-row-at .before .before .before .before .before in
+    let p = climb-passes _ _ _ _ (start .pre .1) _ _ _ (at-work-row .work-row .ensures) (at-enum-told .enum-told .given .1) in (
       subst (λ (n : ℕ). rows (start .args .list .now) - (at-field-at .field-at .result - 1) < n) (start .pre .0)
-          (climb-less _ _ _ _ (start .pre .1) (start .args .stops) _ _ _ (at-work-row .work-row .ensures)
-          (at-enum-told .enum-told .given .1) _ (at-card-row-at .card-row-at .ensures) _ (at-stays .stays .ensures) (at-if1 .if1 .left)
-          _ (at-field-at .field-at .ensures) (at-if2 .if2 .left)),
-      climb-on _ _ _ _ (start .pre .1) (start .args .stops) _ _ _ (at-work-row .work-row .ensures)
-          (at-enum-told .enum-told .given .1) _ (at-card-row-at .card-row-at .ensures) _ (at-stays .stays .ensures) (at-if1 .if1 .left)
-          _ (at-field-at .field-at .ensures) (at-if2 .if2 .left),
+          (climb-less p (start .args .feeding) _ (at-card-row-at .card-row-at .ensures) _ (at-stays .stays .ensures)
+          (at-if1 .if1 .left) _ (at-field-at .field-at .ensures) (at-if2 .if2 .left)),
+      climb-on p (start .args .feeding) _ (at-card-row-at .card-row-at .ensures) _ (at-stays .stays .ensures)
+          (at-if1 .if1 .left) _ (at-field-at .field-at .ensures) (at-if2 .if2 .left),
     )
 
 climb-enum-known-a : (t : ℕ) → climb-lts.Need-enum-known-a (callees t) (climb-at t) climb.Post
@@ -180,9 +180,9 @@ climb-add-t33 t c =
     let at-work-row = at-20 .before in
     let at-card-row-at = at-work-row .before .before .before in
     let start = at-card-row-at .before .before .before .before .before in
-    let k = climb-counts _ _ _ _ (start .pre .1) (start .args .stops) _ _ _ (at-work-row .work-row .ensures)
-    (at-enum-told .enum-told .given .1) _ (at-card-row-at .card-row-at .ensures) _ (at-stays .stays .ensures) (at-if1 .if1 .left)
-    _ (at-field-at .field-at .ensures) (at-if2 .if2 .left) _ _ _ (at-climb .climb .ensures) (at-n .n .given .1) in omega (arith, k)
+    let p = climb-passes _ _ _ _ (start .pre .1) _ _ _ (at-work-row .work-row .ensures) (at-enum-told .enum-told .given .1) in
+    let k = climb-counts p (start .args .feeding) _ (at-card-row-at .card-row-at .ensures) _ (at-stays .stays .ensures)
+    (at-if1 .if1 .left) _ (at-field-at .field-at .ensures) (at-if2 .if2 .left) _ _ _ (at-climb .climb .ensures) (at-n .n .given .1) in omega (arith, k)
 
 climb-same-length-7 : (t : ℕ) → climb-lts.Need-same-length-7 (callees t) (climb-at t) climb.Post
 climb-same-length-7 t c = search needs
@@ -205,9 +205,10 @@ climb-returns-4 t c =
     let at-work-row = at-24 .before in
     let at-card-row-at = at-work-row .before .before .before in
     let start = at-card-row-at .before .before .before .before .before in
-    climb-back _ _ _ _ (start .pre .1) (start .args .stops) _ _ _ (at-work-row .work-row .ensures)
-    (at-enum-told .enum-told .given .1) _ (at-card-row-at .card-row-at .ensures) _ (at-stays .stays .ensures) (at-if1 .if1 .left)
-    _ (at-field-at .field-at .ensures) (at-if2 .if2 .left) _ _ _ _ (at-climb .climb .ensures) (at-a .a .given .1) (at-put-card-row .put-card-row .ensures)
+    let p = climb-passes _ _ _ _ (start .pre .1) _ _ _ (at-work-row .work-row .ensures) (at-enum-told .enum-told .given .1) in
+    climb-back p (start .args .feeding) _ (at-card-row-at .card-row-at .ensures) _ (at-stays .stays .ensures)
+    (at-if1 .if1 .left) _ (at-field-at .field-at .ensures) (at-if2 .if2 .left) _ _ _ _ (at-climb .climb .ensures)
+    (at-a .a .given .1) (at-put-card-row .put-card-row .ensures)
 
 climb-same-length-9 : (t : ℕ) → climb-lts.Need-same-length-9 (callees t) (climb-at t) climb.Post
 climb-same-length-9 t c = search needs
@@ -229,9 +230,9 @@ climb-returns-5 t c =
     let at-work-row = at-20 .before in
     let at-card-row-at = at-work-row .before .before .before in
     let start = at-card-row-at .before .before .before .before .before in
-    climb-done _ _ _ _ (start .pre .1) (start .args .stops) _ _ _ (at-work-row .work-row .ensures)
-    (at-enum-told .enum-told .given .1) _ (at-card-row-at .card-row-at .ensures) _ (at-stays .stays .ensures) (at-if1 .if1 .left)
-    _ (at-field-at .field-at .ensures) (at-if2 .if2 .left) _ _ _ (at-climb .climb .ensures) (at-n .n .given .1)
+    let p = climb-passes _ _ _ _ (start .pre .1) _ _ _ (at-work-row .work-row .ensures) (at-enum-told .enum-told .given .1) in
+    climb-done p (start .args .feeding) _ (at-card-row-at .card-row-at .ensures) _ (at-stays .stays .ensures)
+    (at-if1 .if1 .left) _ (at-field-at .field-at .ensures) (at-if2 .if2 .left) _ _ _ (at-climb .climb .ensures) (at-n .n .given .1)
 
 pub +climb-spec : {M : Type 1} → statement M
 +climb-spec = close μ-climb λ t. climb-lts.spec (callees t)
