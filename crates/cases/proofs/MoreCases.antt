@@ -26,6 +26,7 @@ unfolding first sumTo every count valueAt leastOn sizeTest rowsTest inBounds fie
     returnsAfterSelfStart clearOf seesOwnZone backsUp withinDelays margin marginBetween gradedAbove staysClear seesNear meetsLower unbacked firstUnbacked
     candidate byBackup judged picked meetsDelay fitting cutoffOf
     printed shown outcomeOf settled putCardRow onSettled workOut upFrom ending calculation whole comes worked moreTable conditions faults ranges
-    replacements gradings stopping plant lent plantCard chain chainCard pathFrom pathOf onward reachFrom putList editRight editTest cardRight cardAnswer cardTest onPassed
+    replacements gradings stopping plant lent plantCard chain chainCard pathFrom pathOf onward reachFrom
+    putList editRight editTest cardRight cardAnswer cardTest onPassed
     reworked outcome replaced
 more-cases = refl

@@ -46,7 +46,8 @@ module _ (l : List ℕ) (a : AllBounded (viewOf l)) (b : Feeds l) (i : ℕ) (h :
       ⊎-elim (λ q. p q (r .ahead x (omega arith) ∙ sym same ∙ own l a b i h c₀ c x r o e)) (λ q. other (g q)) (passes-or-fails feeding) in
       rw e
       (longer n
-      (along (λ _ q. omega (arith, up .above, on-above l b i x h (on-next l a b i h c₀ c x r))) (λ q. absurd (not-both refl q)) (climbs l a b i h c₀ c x r o e n goes) t))
+      (along (λ _ q. omega (arith, up .above, on-above l b i x h (on-next l a b i h c₀ c x r))) (λ q. absurd (not-both refl q))
+      (climbs l a b i h c₀ c x r o e n goes) t))
 
   pub climbed : rows l * columnCount ≤ length c₀ → Climbed l i c₀ i (reach l i c₀) (workOut l (reach l i c₀) c₀)
   climbed k =

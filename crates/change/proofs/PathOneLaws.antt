@@ -23,7 +23,8 @@ use Rattle.settle.specs.Inequalities.{Feeding, SomePickup, NoDelay, CauseIs}
 use Rattle.calculate.proofs.MeetsLaws.{pickup-down, cause-alike}
 use Rattle.path.proofs.PathLaws.{source-last, on-within}
 use Rattle.change.specs.AnyCard.{MeetsTo, GoesOn, PathUpTo, PathRefused, NO-PICKUP, DELAY, WorkedTo}
-use Rattle.change.proofs.PathLeastLaws.{on, MetBelow, met-to, LeastBelow, up-to, worked, fewer, met-least, no-higher, some-pickup, some-delay, same-below}
+use Rattle.change.proofs.PathLeastLaws.{MetBelow, met-to, LeastBelow, up-to, worked, fewer, met-least}
+use Rattle.change.proofs.PathLeastLaws.{on, no-higher, some-pickup, some-delay, same-below}
 
 in-order : {P : Type 0} (a b : ℕ) → (a < b → P) → (a ≡ b → P) → (b < a → P) → P
 in-order a b f g h = ⊎-elim f (λ (q : b ≤ a). ⊎-elim (λ (e : b ≡ a). g (sym e)) h (eq-or-lt-of-le q)) (lt-or-le a b)

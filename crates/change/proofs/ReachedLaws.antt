@@ -116,7 +116,8 @@ module _ (l : List ℕ) (a : AllBounded (viewOf l)) (b : Feeds l) (i : ℕ) (h :
       ahead-still j g = other j (λ e. omega arith) ∙ r .ahead j (omega arith)
 
       -- it was the last: the source feeds it, or it is no replaced row and comes out as it was
-      pub ends : (is : List ℕ) → length is ≡ 1 → (field l x atFeeder ≡ 0) ⊎ ((x ≡ i → ⊥) × (cardRowAt c′ x ≡ cardRowAt c₀ x)) → Climbed l i c₀ x is (finished c′)
+      pub ends :
+          (is : List ℕ) → length is ≡ 1 → (field l x atFeeder ≡ 0) ⊎ ((x ≡ i → ⊥) × (cardRowAt c′ x ≡ cardRowAt c₀ x)) → Climbed l i c₀ x is (finished c′)
       ends is one why =
           worked-to c′ x
           (record {

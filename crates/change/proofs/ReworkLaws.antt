@@ -101,5 +101,6 @@ module _ (l c₀ c : List ℕ) (x : Accepts l c₀ c) (place : ℕ) (row : List 
       by-cases : (t : Tested) → rowsTest l′ ≡ t → reworked l′ (place - 1) c ≡ onPassed (rowsTest l′) (calculation l′ c₀)
       by-cases Passed e =
           rw (e, card-passes e)
-          (reach-whole l′ (feeds e) (place - 1) c (is-row e) (stand e) ∙ sym (calculation-path l′ (feeds e) (place - 1) (is-row e) c (rests e)) ∙ same-calculation e)
+          (reach-whole l′ (feeds e) (place - 1) c (is-row e) (stand e) ∙
+          sym (calculation-path l′ (feeds e) (place - 1) (is-row e) c (rests e)) ∙ same-calculation e)
       by-cases (Refused a) e = rw e

@@ -75,7 +75,8 @@ fn answer(list: &mut [u64], card: &mut [u64], place: u64, row: &[u64]) -> HowFar
 // The public entry: replaces the row at `place` and works out its path on the card, up to the first feeding row that comes out as it
 // was, or refuses by its numbers, as the whole calculation does.
 pub fn replace(list: &mut [u64], card: &mut [u64], place: u64, row: &[u64]) -> Replacement
-    ensures { λ g. ⌜ Gave (replaced (now (list .entry)) (now (card .entry)) place (now (row .entry))) (g .numbers) (g .rows) (now (list .exit)) (now (card .exit)) ⌝ }
+    ensures { λ g. ⌜ Gave (replaced (now (list .entry)) (now (card .entry)) place (now (row .entry))) (g .numbers) (g .rows)
+        (now (list .exit)) (now (card .exit)) ⌝ }
 {
     match answer(list, card, place, row) {
         HowFar::Rows(n) => Replacement {

@@ -17,7 +17,8 @@ may feeding old e q f = f ∙ rw e (ap (sameCardRow old) q)
 returns : tie.Need-returns
 returns c =
     let start = c .before .before in
-    may-not (start .args .feeding) (sameCardRow (start .args .old) (cardRowAt (start .args .card .now) (start .args .i))) (not-true (start .args .feeding) (c .if1 .taken))
+    may-not (start .args .feeding)
+    (sameCardRow (start .args .old) (cardRowAt (start .args .card .now) (start .args .i))) (not-true (start .args .feeding) (c .if1 .taken))
 
 card-row-at-requires : tie.Need-card-row-at-requires
 card-row-at-requires c κs = search needs
@@ -28,7 +29,8 @@ same-card-row-requires c κs = search needs
 returns-2 : tie.Need-returns-2
 returns-2 c =
     let start = c .before .before .before .before in
-    may (start .args .feeding) (start .args .old) (not-false (start .args .feeding) (c .before .before .if1 .left)) (c .before .card-row-at .ensures) (c .same-card-row .ensures)
+    may (start .args .feeding) (start .args .old) (not-false (start .args .feeding) (c .before .before .if1 .left)) (c .before .card-row-at .ensures)
+    (c .same-card-row .ensures)
 
 pub stays-spec : {M : Type 1} → statement M
 stays-spec = tie.close (tie.spec returns card-row-at-requires same-card-row-requires returns-2)
