@@ -12,7 +12,7 @@
    - The caller was compiled with the header of the library that it is linked with: see SURFPOCKET_VERSION.
    - There is stack enough. Measured on x86-64 with 256 rows, and rounded up:
          surfpocket_whole      20 KiB
-         surfpocket_replace    92 KiB for the first row of a chain: 12 KiB, and 288 bytes a row that is worked out
+         surfpocket_replace    92 KiB for the first row of a chain: 18 KiB at most, and 288 bytes a row that is worked out
          surfpocket_study       1 KiB
          surfpocket_differential 1 KiB
          surfpocket_card       96 KiB
@@ -139,11 +139,11 @@ SurfpocketAnswer surfpocket_whole(const uint64_t *list, size_t list_length, uint
 /* The replacement of the row at a place (from 1) by a row of 18 numbers that keeps its number and its feeder: gives DONE, puts the
    row into the list and works out on the card the rows from it towards the source, or gives the first refusal and leaves list and
    card as they were (it may have written both meanwhile).
-   The climb ends at the first feeding row, after the replaced one, whose new card row equals its old one in all its numbers, or at
-   the source; `rows` counts the replaced row and the feeding rows up to and including that one, the relays that are to be visited.
-   The replaced row itself never ends it, even where its card row stays. Rows past the end, like those off the path, are not worked
-   out: they keep what they had and refuse nothing. On the card of an accepted list they are what starting afresh would give; on a
-   card that is not the list's they may be anything that CARD lets in.
+   The last row worked out is the first feeding row, after the replaced one, whose new card row equals its old one in all its
+   numbers, or else the row that the source feeds; `rows` counts the rows from the replaced one up to and including the last, the
+   relays that are to be visited. The replaced row itself never stops it, even where its card row stays. Rows past the last are not
+   worked out: once CARD is passed they keep what they had and refuse nothing. On the card of an accepted list they are what starting
+   afresh would give; on a card that is not the list's they may be anything that CARD lets in.
    Card rows off the path are read as they are and stay, and so do the card's numbers past its rows.
    Order: COUNT, ROOM, EDIT (no row has that place, the new row is not 18 numbers, or its number or feeder is another), then FIELD
    and TREE over the list as it would be, CARD over all rows ascending (pickup 1 to 100,000,000, delay 0 to 100,000, cutoff 0 to

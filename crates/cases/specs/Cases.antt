@@ -65,8 +65,8 @@ refused l number row fed = worked (calculates l blank) (calculated (number ∷ r
 abbrev becomes : List ℕ → List ℕ → ℕ → ℕ → List ℕ → List ℕ → Worked
 becomes l c work far l′ c′ = worked (replaces l c 1 (firstRow work far)) (replacing (0 ∷ 0 ∷ 0 ∷ []) 2 l′ c′)
 
-abbrev stays : List ℕ → List ℕ → ℕ → ℕ → ℕ → ℕ → ℕ → Worked
-stays l c work far number row fed = worked (replaces l c 1 (firstRow work far)) (replacing (number ∷ row ∷ fed ∷ []) 0 l c)
+abbrev refusedAt : List ℕ → List ℕ → ℕ → ℕ → ℕ → ℕ → ℕ → Worked
+refusedAt l c work far number row fed = worked (replaces l c 1 (firstRow work far)) (replacing (number ∷ row ∷ fed ∷ []) 0 l c)
 
 -- pickup I of the third row against P2, the pickups below being a and b
 abbrev heldTo : ℕ → ℕ → ℕ → Bool → Worked
@@ -82,7 +82,7 @@ table =
     ∷ done (with twoRows 2 atNear 5148000) twoCard
     ∷ done (with twoRows 2 atNear 5147999) (318000 ∷ 1900 ∷ 1300000 ∷ 360000 ∷ 2200 ∷ 0 ∷ [])
     ∷ becomes twoRows twoCard 190000 900000 (with twoRows 1 atWork 190000) (336000 ∷ 1900 ∷ 1300000 ∷ 370000 ∷ 2200 ∷ 4290000 ∷ [])
-    ∷ stays twoRows twoCard 180000 431000 12 1 0
+    ∷ refusedAt twoRows twoCard 180000 431000 12 1 0
     ∷ heldTo 100000 99000 209000 true
     ∷ heldTo 100000 99000 208999 false
     ∷ heldTo 100000 101000 209000 true
@@ -96,12 +96,12 @@ table =
     -- in a replacement by the new row's pickup: 1.1 × 336,000 = 369,600
     ∷ becomes (with twoRows 2 atHigh 370000) (set twoCard 5 0) 190000 900000 (with (with twoRows 2 atHigh 370000) 1 atWork 190000)
     (336000 ∷ 1900 ∷ 1300000 ∷ 370000 ∷ 2200 ∷ 0 ∷ [])
-    ∷ stays (with twoRows 2 atHigh 369999) (set twoCard 5 0) 190000 900000 11 2 0
+    ∷ refusedAt (with twoRows 2 atHigh 369999) (set twoCard 5 0) 190000 900000 11 2 0
     -- BACKUP of row 1 by row 2, calculated and replaced
     ∷ done (backedUp 480000) backedCard
     ∷ refused (backedUp 479999) 13 2 1
     ∷ becomes (backedUp 900000) backedCard 180000 480000 (backedUp 480000) backedCard
-    ∷ stays (backedUp 900000) backedCard 180000 479999 13 2 1
+    ∷ refusedAt (backedUp 900000) backedCard 180000 479999 13 2 1
     -- [02 §5]
     ∷ done (with twoRows 2 atDevice 2) laterCard
     ∷ done (with (with twoRows 2 atDevice 2) 2 atCeiling 2400) laterCard

@@ -235,8 +235,8 @@ unfoldable pub chainCard : ℕ → ℕ → List ℕ
 chainCard t₂ t₃ = 110000 ∷ 100 ∷ 220000 ∷ 121000 ∷ t₂ ∷ 220000 ∷ 133100 ∷ t₃ ∷ 220000 ∷ 77 ∷ []
 
 -- row n replaced by that of another list, and refused with a number at a row
-abbrev stays : List ℕ → List ℕ → ℕ → List ℕ → ℕ → ℕ → Worked
-stays l c n l′ number at = keptIn l c n (row n l′) number at 0
+abbrev refusedAt : List ℕ → List ℕ → ℕ → List ℕ → ℕ → ℕ → Worked
+refusedAt l c n l′ number at = keptIn l c n (row n l′) number at 0
 
 -- D2 takes the larger of the two rows' steps
 unfoldable pub gradings : List Worked
@@ -259,13 +259,13 @@ gradings =
     ∷ becomes (chain 1 1 1) (set (chainCard 9 9) 1 250) 2 2 (chain 1 2 1) (set (chainCard 750 1250) 1 250)
     -- at the ceiling and one off, in the row itself and in its feeder
     ∷ becomes (chain 1 1 1) (chainCard 400 700) 2 2 (with (chain 1 2 1) 2 17 600) (chainCard 600 1100)
-    ∷ stays (chain 1 1 1) (chainCard 400 700) 2 (with (chain 1 2 1) 2 17 599) 7 2
+    ∷ refusedAt (chain 1 1 1) (chainCard 400 700) 2 (with (chain 1 2 1) 2 17 599) 7 2
     ∷ becomes (with (chain 1 1 1) 3 17 1100) (chainCard 400 700) 2 2 (with (chain 1 2 1) 3 17 1100) (chainCard 600 1100)
-    ∷ stays (with (chain 1 1 1) 3 17 1099) (chainCard 400 700) 2 (with (chain 1 2 1) 3 17 1099) 7 3
+    ∷ refusedAt (with (chain 1 1 1) 3 17 1099) (chainCard 400 700) 2 (with (chain 1 2 1) 3 17 1099) 7 3
     ∷ []
 
--- [02 §8] the chain's first row with another work and floor, and its third with another floor and ceiling; a card with these delays
--- and this third row. The second row needs 1.1 times its own work, 121,000, whatever the first's pickup up to 110,000
+-- [02 §8] the chain's first row with this work and floor, and its third with this floor and ceiling; a card with the pickups and
+-- delays of its first two rows, and its third row by itself. The second row needs 1.1 times its own work, 121,000, whatever the first's pickup up to 110,000
 abbrev three : ℕ → ℕ → ℕ → ℕ → List ℕ
 three work floor floor₃ ceiling₃ = with (with (with (with (chain 1 1 1) 1 5 work) 1 16 floor) 3 16 floor₃) 3 17 ceiling₃
 
@@ -275,7 +275,7 @@ threeCard I t I₂ t₂ rest = I ∷ t ∷ 220000 ∷ I₂ ∷ t₂ ∷ 220000 �
 abbrev third : ℕ → ℕ → List ℕ
 third I t = I ∷ t ∷ 220000 ∷ 77 ∷ []
 
--- a row on top of it, which no card of the chain holds
+-- the chain with floor 800 in its third row and a fourth that feeds it
 abbrev four : ℕ → List ℕ
 four floor = with (with (with (chain 1 1 1) 1 16 floor) 3 2 4) 3 16 800 ++ link 4 0 133100 1 0 []
 
@@ -305,9 +305,10 @@ stopping =
     -- past the stop nothing is refused: the third row's ceiling is a millisecond short; the second row lent otherwise, it is
     ∷ becomes (three 100000 100 490 699) (threeCard 110000 100 121000 400 (third 9 9)) 1 2 (three 90000 100 490 699)
     (threeCard 99000 100 121000 400 (third 9 9))
-    ∷ stays (three 100000 100 490 699) (threeCard 110000 100 121000 401 (third 9 9)) 1 (three 90000 100 490 699) 7 3
-    -- [01 §7] the trap: only the line's work is another, its own card row stays, and the transformer's does not. By P2 above the motor
-    -- 11 × (412,500 × 6,000 + 77,272 × 10,000) / (10 × 25,000) = 142,899.68; with 77,273 it is 142,900.12
+    ∷ refusedAt (three 100000 100 490 699) (threeCard 110000 100 121000 401 (third 9 9)) 1 (three 90000 100 490 699) 7 3
+    -- [01 §7] the trap: only the line's work is another and its own card row stays. By P2 above the motor the transformer needs
+    -- 11 × (412,500 × 6,000 + 77,272 × 10,000) / (10 × 25,000) = 142,899.68, so its card row changes; with 77,273 it needs 142,900.12,
+    -- and its card row stays
     ∷ becomes (with plant 1 12 165000) plantCard 1 2 (with (with plant 1 12 165000) 1 5 77272) (cardOf 142900 500 302900)
     ∷ becomes (with plant 1 12 165000) plantCard 1 2 (with (with plant 1 12 165000) 1 5 77273) plantCard
     ∷ []

@@ -17,13 +17,13 @@ use Rattle.layout.specs.View.{viewOf}
 use Rattle.layout.specs.Range.{AllBounded}
 use Rattle.rows.specs.InRange.{Feeds}
 use Rattle.settle.specs.Settle.{shown}
-use Rattle.rowwise.specs.WorkOut.{Worked, refused, onSettled, workOut}
+use Rattle.rowwise.specs.WorkOut.{Worked, onSettled, workOut}
 use Rattle.path.specs.Path.{Nth}
 use Rattle.path.specs.Reach.{Reaches, refused-there, at-source, as-it-was, goes-on, reach}
 use Rattle.path.proofs.ReachLaws.{reaches-from}
 use Rattle.path.proofs.PathLaws.{fed-climbs, on-above}
 use Rattle.change.specs.AnyCard.{GoesOn}
-use Rattle.change.proofs.ReachedLaws.{Reached, Climbed, worked-to, refused-by, on-next, unsettled, own, ends, stays, climbs}
+use Rattle.change.proofs.ReachedLaws.{IsNext, Climbed, worked-to, refused-by, on-next, unsettled, own, ends, stays, climbs}
 
 module _ (l : List ℕ) (a : AllBounded (viewOf l)) (b : Feeds l) (i : ℕ) (h : i < rows l) (c₀ : List ℕ) where
   -- one row more
@@ -33,7 +33,7 @@ module _ (l : List ℕ) (a : AllBounded (viewOf l)) (b : Feeds l) (i : ℕ) (h :
 
   -- from row x on, which is the replaced one exactly if it is no feeding row
   along :
-      {feeding : Bool} {x : ℕ} {c is : List ℕ} → (feeding ≡ true → x ≡ i → ⊥) → (feeding ≡ false → x ≡ i) → Reached l i c₀ c x → Reaches l feeding x c is →
+      {feeding : Bool} {x : ℕ} {c is : List ℕ} → (feeding ≡ true → x ≡ i → ⊥) → (feeding ≡ false → x ≡ i) → IsNext l i c₀ c x → Reaches l feeding x c is →
       Climbed l i c₀ x is (workOut l is c)
   unfolding workOut onSettled
   along f g r (refused-there feeding x c why e) = rw e (unsettled l a b i h c₀ c x r (x ∷ []) why e)

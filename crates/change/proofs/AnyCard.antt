@@ -3,30 +3,32 @@
 --                     numbers found elsewhere; the last is the first feeding row after the replaced one that stands as it was, or the
 --                     row that the source feeds; rows past it and off the path keep what they had; the count is that of the rows up to it
 --     visits-exactly  and the count is no other, whatever settings are said to be so worked out
---     path-least      no other settings that meet them up to that row have a lower pickup or a shorter delay in any row of the path there
+--     path-only       and there are no other such settings
+--     path-least      no other settings that meet them up to that row have a lower pickup or a shorter delay in any row there
 --     path-exactly    it is done exactly when some settings are so worked out
 --     path-accepted   it is done where some settings meet every condition along the whole path
 --     path-refused    any other is refused with 11, 12, 13 or 7 at the first row of the path that no pickup, or else no delay, fits, no
 --                     row below it having stopped the climb
 --     refused-none    refused, no row counts as worked out
 -- `replaced` is the definition that the public entry's contract cites (specs/Replace.antt).
-use mathlib.Core.Path.{_≡_, refl, sym, _∙_, subst}
+use mathlib.Core.Path.{_≡_, sym, _∙_, subst}
 use mathlib.Core.Logic.{_↔_}
 use mathlib.Core.List.{List}
-use Prim.Native.Nat.{ℕ, _-_, _≤_, _<_}
+use Prim.Native.Nat.{ℕ, _+_, _-_, _≤_, _<_}
+use native.Mathlib.Numerals.{add-one}
 use Rattle.answers.specs.declared.Answer.the-variants.{Done}
 use Rattle.layout.specs.Card.{cardRowAt}
 use Rattle.layout.specs.List.{rows}
 use Rattle.layout.specs.View.{Settings}
-use Rattle.path.specs.Path.{OnPath, Nth}
+use Rattle.path.specs.Path.{Nth}
 use Rattle.path.proofs.OnPathLaws.{nth-one}
-use Rattle.change.specs.AnyCard.{MeetsTo, PathRefused, WorkedTo, Visits}
+use Rattle.change.specs.AnyCard.{MeetsBelow, PathRefused, WorkedTo, Visits}
 use Rattle.change.specs.Gets.{made, Passes}
 use Rattle.change.specs.Replace.{replaced}
 use Rattle.change.proofs.KeptLaws.{refused-counts}
 use Rattle.change.proofs.PathEndLaws.{refused-not-done, is-row, Ended, ended}
 use Rattle.change.proofs.PathLeastLaws.{under}
-use Rattle.change.proofs.PathOneLaws.{never-refused, ended-not-refused, one-end}
+use Rattle.change.proofs.PathOneLaws.{never-refused, ended-not-refused, one-end, one-settings}
 
 module _ (l c : List ℕ) (place : ℕ) (row : List ℕ) (p : Passes l c place row) where
   abbrev l′ : List ℕ
@@ -60,11 +62,19 @@ module _ (l c : List ℕ) (place : ℕ) (row : List ℕ) (p : Passes l c place r
             nth-one l′ (p .feeds) row-of-it (subst (Nth l′ (place - 1) (replaced l c place row .count)) same (v .counted)) (v′ .counted),
       )
 
+  pub path-only :
+      replaced l c place row .answer ≡ Done → (k : Settings) (last : ℕ) → WorkedTo (made l place row) (place - 1) c k last →
+      (j : ℕ) → j < rows (made l place row) → cardRowAt (replaced l c place row .card) j ≡ k j
+  path-only e k last w =
+      let v = path-visits e in
+      one-settings l′ (p .feeds) (place - 1) row-of-it c card k (v .last) last (v .worked) w
+
   pub path-least :
-      (d : replaced l c place row .answer ≡ Done) (k : Settings) → MeetsTo (made l place row) (place - 1) c k (path-visits d .last) →
-      (j : ℕ) → j ≤ path-visits d .last →
+      (last : ℕ) → WorkedTo (made l place row) (place - 1) c (cardRowAt (replaced l c place row .card)) last → (k : Settings) →
+      MeetsBelow (made l place row) (place - 1) c k (last + 1) → (j : ℕ) → j ≤ last →
       (cardRowAt (replaced l c place row .card) j .pickup ≤ k j .pickup) × (cardRowAt (replaced l c place row .card) j .delay ≤ k j .delay)
-  path-least d k m = under l′ (p .feeds) (place - 1) row-of-it c card k (path-visits d .last) (path-visits d .worked) m
+  path-least last w k m =
+      under l′ (p .feeds) (place - 1) row-of-it c card k last w (subst (MeetsBelow l′ (place - 1) c k) (add-one last) m)
 
   path-ended : (k : Settings) (s : ℕ) → WorkedTo l′ (place - 1) c k s → replaced l c place row .answer ≡ Done
   path-ended k s w = by-cases (ended l c place row p)
@@ -77,7 +87,7 @@ module _ (l c : List ℕ) (place : ℕ) (row : List ℕ) (p : Passes l c place r
       (replaced l c place row .answer ≡ Done) ↔ ((k : Settings) × (s : ℕ) × WorkedTo (made l place row) (place - 1) c k s)
   path-exactly = (λ e. let v = path-visits e in (card, v .last, v .worked), λ s. path-ended (s .0) (s .1) (s .2))
 
-  pub path-accepted : (k : Settings) → MeetsTo (made l place row) (place - 1) c k (rows (made l place row)) → replaced l c place row .answer ≡ Done
+  pub path-accepted : (k : Settings) → MeetsBelow (made l place row) (place - 1) c k (rows (made l place row)) → replaced l c place row .answer ≡ Done
   path-accepted k m = by-cases (ended l c place row p)
     where
       by-cases : Ended l c place row p → replaced l c place row .answer ≡ Done

@@ -1,18 +1,15 @@
 -- DEMAND 1 for a replacement, of any list, card, place and new row (specs/Gets.antt):
 --     replacement-gets    it gets an answer exactly when the rules give it, at the first place, with all that comes before it in the
---                         order 2, 3, 10, 4, 5, 9, then 11, 12 or 13 before 7 along the path, absent; and none otherwise
+--                         order 2, 3, 10, 4, 5, 9, then 11, 12 or 13 before 7 along the path as far as the climb goes, absent; and none otherwise
 --     refused-as-lent     any refusal leaves list and card as they were lent
 -- `replaced` is the definition that the public entry's contract cites (specs/Replace.antt).
 use mathlib.Core.Path.{_≡_, refl, sym, ap, _∙_, subst}
-use mathlib.Core.Bool.{false}
 use mathlib.Core.Logic.{_↔_, ⊎-elim}
 use mathlib.Core.List.{List}
 use Prim.Native.Nat.{ℕ, _-_, _≤_, _<_}
-use lib.Dec.{eqb}
 use lib.ListN.{length}
 use Rattle.answers.specs.declared.Answer.{Answer}
 use Rattle.answers.specs.declared.Answer.the-variants.{Done, Count, Room}
-use Rattle.answers.specs.Answer.{numberOf}
 use Rattle.answers.specs.declared.Tested.{Tested}
 use Rattle.answers.specs.declared.Tested.the-variants.{Refused}
 use Rattle.fold.proofs.BoolLaws.{passes-or-fails, fails, not-both}
@@ -123,23 +120,6 @@ module _ (l c : List ℕ) (place : ℕ) (row : List ℕ) where
 
   pub replacement-gets : (a : Answer) → (replaced l c place row .answer ≡ a) ↔ ReplacementGets l c place row a
   replacement-gets a = (λ e. subst (ReplacementGets l c place row) e gets, get)
-
-  -- what a replacement that is done has passed
-  pub done-passes : replaced l c place row .answer ≡ Done → Passes l c place row
-  done-passes e = by-cases (replacement-gets Done .0 e) refl
-    where
-      other : {a : Answer} → a ≡ Done → eqb (numberOf a) 0 ≡ false → Passes l c place row
-      other q n = absurd (not-both (ap (λ (a : Answer). eqb (numberOf a) 0) q) n)
-
-      by-cases : {a : Answer} → ReplacementGets l c place row a → a ≡ Done → Passes l c place row
-      by-cases (ReplacementGets.COUNT n) q = other q refl
-      by-cases (ReplacementGets.ROOM s n) q = other q refl
-      by-cases (ReplacementGets.EDIT s r n) q = other q refl
-      by-cases (ReplacementGets.FIELD i k f w) q = other q refl
-      by-cases (ReplacementGets.TREE i f r w) q = other q refl
-      by-cases (ReplacementGets.CARD i f r b w) q = other q refl
-      by-cases (ReplacementGets.UNSETTLED p z) q = p
-      by-cases (ReplacementGets.DONE k s p w) q = p
 
   pub refused-as-lent :
       (replaced l c place row .answer ≡ Done → ⊥) → (replaced l c place row .list ≡ l) × (replaced l c place row .card ≡ c)

@@ -33,13 +33,14 @@ use Rattle.change.specs.Replace.{reworked, Replaced, outcome, replaced}
 use Rattle.change.specs.Series.{Request, replacements, entered, Ledger, ledger, putDone}
 use Rattle.change.proofs.AcceptLaws.{accepts}
 use Rattle.change.proofs.EditedLaws.{edited-put}
-use Rattle.change.proofs.KeptLaws.{replaces, replaced-list, refused-keeps, workOut-keeps, off-outside, path-within}
+use Rattle.change.proofs.KeptLaws.{replaces, replaced-list, refused-keeps, workOut-keeps, off-outside, reach-within}
 use Rattle.change.proofs.PutLaws.{putList-length, putList-before, putList-within, putList-after}
 use Rattle.change.proofs.RefusalLaws.{Refuses, refuses-done, later-edit, reworked-later}
 use Rattle.change.proofs.SeriesLaws.{one-agrees, replaced-edited, replaced-made, whole-made, made, made-answer, made-refuses}
 use Rattle.change.proofs.AgainLaws.{series-again}
 use Rattle.change.proofs.AnyCard.{path-visits}
-use Rattle.change.proofs.Demand1.{replacement-gets, done-passes}
+use Rattle.change.proofs.Demand1.{replacement-gets}
+use Rattle.change.proofs.DoneLaws.{done-passes}
 
 done-not-edit : Done ≡ Edit → ⊥
 done-not-edit e = zero-not-one cc
@@ -135,7 +136,7 @@ off-path-kept l c place row e =
       other-rows = λ x. ⊎-elim (putList-before l (place - 1) row put x) (putList-after l (place - 1) row put x);
       card-length = k .same-length;
       off-path = λ j off. k .same j (off-outside l c place row (r .fits) (r .tested) j off);
-      past-rows = k .past (rows l * columnCount) (path-within l c place row (r .fits) (r .tested));
+      past-rows = k .past (rows l * columnCount) (reach-within l c place row (r .fits) (r .tested));
     })
 
 pub refused-changes-nothing :

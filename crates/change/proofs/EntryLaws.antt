@@ -117,14 +117,13 @@ module _ (l c : List ℕ) (place : ℕ) (row : List ℕ) where
       answer-exchanged x l′ c′ z = rw (sym e ∙ f, sym e′ ∙ f′) z
 
 -- the answer in section 4's numbers, and the count
-pub gave-rows : {z : Replaced} {x : HowFar} {n : ℕ} {g l c : List ℕ} → x ≡ Rows n → g ≡ givenBy Done → Exchanged z x l c → Gave z g n l c
-unfolding answerOf countOf
-gave-rows {z} {x} {n} {g} {l} {c} q e w =
-    let v = subst (λ (x : HowFar). Exchanged z x l c) q w in
-    record { numbers = e ∙ ap givenBy (v .answer); count = v .count; list = v .list; card = v .card }
-
-pub gave-refused : {z : Replaced} {x : HowFar} {a : Answer} {g l c : List ℕ} → x ≡ HowFar.Refused a → g ≡ givenBy a → Exchanged z x l c → Gave z g 0 l c
-unfolding answerOf countOf
-gave-refused {z} {x} {a} {g} {l} {c} q e w =
-    let v = subst (λ (x : HowFar). Exchanged z x l c) q w in
-    record { numbers = e ∙ ap givenBy (v .answer); count = v .count; list = v .list; card = v .card }
+pub gave :
+    {z : Replaced} {x : HowFar} (y : HowFar) {n : ℕ} {g l c : List ℕ} → x ≡ y → g ≡ givenBy (answerOf y) → n ≡ countOf y → Exchanged z x l c →
+    Gave z g n l c
+gave y q e f w =
+    record {
+      numbers = e ∙ ap givenBy (ap answerOf (sym q) ∙ w .answer);
+      count = f ∙ ap countOf (sym q) ∙ w .count;
+      list = w .list;
+      card = w .card;
+    }

@@ -153,9 +153,9 @@ module _ (l c : List ℕ) (place : ℕ) (row : List ℕ) where
         (rw (← edited-rows l place row f) (edited-is-row l place row f)) .1
         (λ o. off (edited-path l place row f o)))
 
-    pub path-within : (i : ℕ) → has (reach (putList l (place - 1) row) (place - 1) c) i ≡ true → i * columnCount + columnCount ≤ rows l * columnCount
+    pub reach-within : (i : ℕ) → has (reach (putList l (place - 1) row) (place - 1) c) i ≡ true → i * columnCount + columnCount ≤ rows l * columnCount
     unfolding onPath
-    path-within i on =
+    reach-within i on =
         let n = edited-rows l place row f in
         let k = on-within (putList l (place - 1) row) (passed-feeds (putList l (place - 1) row) t) (place - 1) i
         (rw (← n) (edited-is-row l place row f)) (reach-inside (putList l (place - 1) row) false (pathOf (putList l (place - 1) row) (place - 1)) c i on) in

@@ -4,6 +4,7 @@ pub mod AlongLaws
 pub mod AnyCard
 pub mod Demand1
 pub mod Demand3
+pub mod DoneLaws
 pub mod EditLaws
 pub mod EditedLaws
 pub mod EntryLaws

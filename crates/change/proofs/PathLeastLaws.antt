@@ -7,40 +7,24 @@ use Prim.Native.Nat.{ℕ, suc, _≤_, _<_}
 use native.Mathlib.Nat.{le-antisymm}
 use native.Mathlib.Omega.{arith}
 use Rattle.layout.specs.declared.CardRow.{CardRow}
-use Rattle.layout.specs.List.{rows, rowAt}
+use Rattle.layout.specs.List.{rows}
 use Rattle.layout.proofs.CardLaws.{same-columns}
 use Rattle.layout.specs.View.{viewOf, Settings}
 use Rattle.rows.specs.InRange.{Feeds}
 use Rattle.settle.proofs.SameLaws.{fed-below}
-use Rattle.settle.specs.Inequalities.{AvailableOn, PickupMet, DelayMet, NoPickup, NoDelay, LeastRow}
+use Rattle.settle.specs.Inequalities.{NoPickup, NoDelay, LeastRow}
 use Rattle.calculate.proofs.LeastLaws.{pickups-under-on, pickup-fits-on, delays-under-on, delay-fits-on}
 use Rattle.path.specs.Path.{OnPath, onPath}
 use Rattle.path.proofs.OnPathLaws.{on-path-exactly, off-path-exactly}
 use Rattle.path.proofs.PathLaws.{on-within}
-use Rattle.change.specs.AnyCard.{AsFound, MeetsTo, PathUpTo, WorkedTo}
+use Rattle.change.specs.AnyCard.{AsFound, MeetsBelow, PathUpTo, WorkedTo}
 
--- the rows of the path below n meet every condition
-pub record MetBelow (l : List ℕ) (i : ℕ) (c : List ℕ) (k : Settings) (n : ℕ) : Type 0 where
-  pub off-path : AsFound l i c k
-  pub available : (j : ℕ) → OnPath l i j → j < n → AvailableOn (rowAt l j) (k j .pickup)
-  pub pickups : (j : ℕ) → OnPath l i j → j < n → PickupMet (viewOf l) k j (k j .pickup)
-  pub delays : (j : ℕ) → OnPath l i j → j < n → DelayMet (viewOf l) k j (k j .delay)
-
--- they are at their least settings
+-- the rows of the path below n are at their least settings
 pub record LeastBelow (l : List ℕ) (i : ℕ) (c : List ℕ) (k : Settings) (n : ℕ) : Type 0 where
   pub off-path : AsFound l i c k
   pub least : (j : ℕ) → OnPath l i j → j < n → LeastRow (viewOf l) k j
 
 module _ {l : List ℕ} {i : ℕ} {c : List ℕ} {k : Settings} where
-  pub met-to : (n m : ℕ) → m ≤ suc n → MeetsTo l i c k n → MetBelow l i c k m
-  met-to n m le t =
-      record {
-        off-path = t .off-path;
-        available = λ j p g. t .available j p (omega arith);
-        pickups = λ j p g. t .pickups j p (omega arith);
-        delays = λ j p g. t .delays j p (omega arith);
-      }
-
   pub up-to : {j : ℕ} → PathUpTo l i c k j → LeastBelow l i c k j
   up-to u = record { off-path = u .off-path; least = u .rows-below }
 
@@ -50,7 +34,7 @@ module _ {l : List ℕ} {i : ℕ} {c : List ℕ} {k : Settings} where
   pub fewer : (n m : ℕ) → n ≤ m → LeastBelow l i c k m → LeastBelow l i c k n
   fewer n m le u = record { off-path = u .off-path; least = λ j p g. u .least j p (omega arith) }
 
-  pub met-least : {n : ℕ} → LeastBelow l i c k n → MetBelow l i c k n
+  pub met-least : {n : ℕ} → LeastBelow l i c k n → MeetsBelow l i c k n
   met-least u =
       record {
         off-path = u .off-path;
@@ -71,7 +55,7 @@ module _ (l : List ℕ) (b : Feeds l) (i : ℕ) (h : i < rows l) (c : List ℕ) 
   alike k k′ f f′ j g o = let n = off-path-exactly l b i j h .0 o in f j g n ∙ sym (f′ j g n)
 
   -- in k the rows below j are at their least settings; in k′ those below n meet every condition
-  module _ (k : Settings) (j : ℕ) (u : LeastBelow l i c k j) (k′ : Settings) (n : ℕ) (few : n ≤ rows l) (m : MetBelow l i c k′ n) where
+  module _ (k : Settings) (j : ℕ) (u : LeastBelow l i c k j) (k′ : Settings) (n : ℕ) (few : n ≤ rows l) (m : MeetsBelow l i c k′ n) where
     same : (x : ℕ) → x < n → onPath l i x ≡ false → k x ≡ k′ x
     same x g = alike k k′ (u .off-path) (m .off-path) x (omega arith)
 
@@ -101,14 +85,14 @@ module _ (l : List ℕ) (b : Feeds l) (i : ℕ) (h : i < rows l) (c : List ℕ) 
         delay-fits-on (viewOf l) (fed-below l b) (onPath l i) n k k′ off-delay (λ x g o. m .delays x (path o) g) j le (on p)
         (λ x g o. u .least x (path o) g)
 
-  -- settings that meet every condition up to row s are no lower there than those worked out up to it
+  -- settings that meet every condition up to the last row worked out are no lower there
   pub under :
-      (k k′ : Settings) (s : ℕ) → WorkedTo l i c k s → MeetsTo l i c k′ s → (j : ℕ) → j ≤ s → (k j .pickup ≤ k′ j .pickup) × (k j .delay ≤ k′ j .delay)
+      (k k′ : Settings) (s : ℕ) → WorkedTo l i c k s → MeetsBelow l i c k′ (suc s) → (j : ℕ) → j ≤ s →
+      (k j .pickup ≤ k′ j .pickup) × (k j .delay ≤ k′ j .delay)
   under k k′ s w m j le =
-      let few = on-within l b i s h (on (w .on-path)) in
-      let met = met-to s (suc s) (omega arith) m in (
-        no-higher k (suc s) (worked w) k′ (suc s) few met (omega arith) j (omega arith),
-        no-later k (suc s) (worked w) k′ (suc s) few met (omega arith) j (omega arith),
+      let few = on-within l b i s h (on (w .on-path)) in (
+        no-higher k (suc s) (worked w) k′ (suc s) few m (omega arith) j (omega arith),
+        no-later k (suc s) (worked w) k′ (suc s) few m (omega arith) j (omega arith),
       )
 
   -- two settings that are least below n are the same there

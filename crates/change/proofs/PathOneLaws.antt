@@ -1,13 +1,14 @@
 -- Along a path, with the numbers found off it: where some settings meet every condition no row is refused, the row at which the climb
 -- ends is one only, and so are the row and the reason of a refusal.
 use mathlib.Core.Path.{_≡_, refl, sym, ap, _∙_}
+use mathlib.Core.Bool.{true, false}
 use mathlib.Core.Logic.{⊎-elim}
 use mathlib.Core.List.{List}
 use Prim.Native.Nat.{ℕ, suc, _+_, _≤_, _<_}
 use native.Mathlib.Nat.{eq-or-lt-of-le, le-antisymm}
 use native.Mathlib.Omega.{arith}
 use borrow.Author.Tests.{eq-eqb}
-use Rattle.fold.proofs.BoolLaws.{lt-or-le}
+use Rattle.fold.proofs.BoolLaws.{passes-or-fails, lt-or-le}
 use Rattle.answers.specs.declared.Answer.{Answer}
 use Rattle.answers.specs.declared.Answer.the-variants.{Unsettled}
 use Rattle.answers.specs.declared.Cause.{Cause}
@@ -21,9 +22,11 @@ use Rattle.settle.proofs.CauseTheorems.{cause-no-pickup, cause-one}
 use Rattle.settle.proofs.SameLaws.{fed-below}
 use Rattle.settle.specs.Inequalities.{Feeding, SomePickup, NoDelay, CauseIs}
 use Rattle.calculate.proofs.MeetsLaws.{pickup-down, cause-alike}
+use Rattle.path.specs.Path.{onPath}
+use Rattle.path.proofs.OnPathLaws.{on-path-exactly, off-path-exactly}
 use Rattle.path.proofs.PathLaws.{source-last, on-within}
-use Rattle.change.specs.AnyCard.{MeetsTo, GoesOn, PathUpTo, PathRefused, NO-PICKUP, DELAY, WorkedTo}
-use Rattle.change.proofs.PathLeastLaws.{MetBelow, met-to, LeastBelow, up-to, worked, fewer, met-least}
+use Rattle.change.specs.AnyCard.{MeetsBelow, GoesOn, PathUpTo, PathRefused, NO-PICKUP, DELAY, WorkedTo}
+use Rattle.change.proofs.PathLeastLaws.{LeastBelow, up-to, worked, fewer, met-least}
 use Rattle.change.proofs.PathLeastLaws.{on, no-higher, some-pickup, some-delay, same-below}
 
 in-order : {P : Type 0} (a b : ℕ) → (a < b → P) → (a ≡ b → P) → (b < a → P) → P
@@ -53,16 +56,14 @@ module _ (l : List ℕ) (b : Feeds l) (i : ℕ) (h : i < rows l) (c : List ℕ) 
     within-end =
         ⊎-elim (λ lt. absurd (no-further k k′ s j w (up-to u) lt (row-within u) (u .went-on s (w .on-path) lt))) (λ (le : j ≤ s). le) (lt-or-le s j)
 
-    met-there : MetBelow l i c k (suc j)
+    met-there : MeetsBelow l i c k (suc j)
     met-there = met-least (fewer (suc j) (suc s) (omega (arith, within-end)) (worked w))
 
   -- settings that meet every condition are never refused; nor are those of a climb that ended
-  pub never-refused : (k′ : Settings) → MeetsTo l i c k′ (rows l) → {x : Answer} → PathRefused l i c x → ⊥
+  pub never-refused : (k′ : Settings) → MeetsBelow l i c k′ (rows l) → {x : Answer} → PathRefused l i c x → ⊥
   never-refused k′ m (NO-PICKUP k j why u n) =
-      some-pickup l b i h c k j (up-to u) k′ (suc j) (row-within u) (met-to (rows l) (suc j) (omega (arith, row-within u)) m) (u .on-path) (omega arith)
-      (cause-no-pickup (viewOf l) k j n)
-  never-refused k′ m (DELAY k j u p n) =
-      some-delay l b i h c k j (up-to u) k′ (suc j) (row-within u) (met-to (rows l) (suc j) (omega (arith, row-within u)) m) (u .on-path) (omega arith) n
+      some-pickup l b i h c k j (up-to u) k′ (rows l) (omega arith) m (u .on-path) (row-within u) (cause-no-pickup (viewOf l) k j n)
+  never-refused k′ m (DELAY k j u p n) = some-delay l b i h c k j (up-to u) k′ (rows l) (omega arith) m (u .on-path) (row-within u) n
 
   pub ended-not-refused : (k : Settings) (s : ℕ) → WorkedTo l i c k s → {x : Answer} → PathRefused l i c x → ⊥
   ended-not-refused k s w (NO-PICKUP k′ j why u n) =
@@ -79,6 +80,22 @@ module _ (l : List ℕ) (b : Feeds l) (i : ℕ) (h : i < rows l) (c : List ℕ) 
       further k k′ s s′ w w′ lt =
           let in-list = on-within l b i s′ h (on l b i h c (w′ .on-path)) in
           no-further k k′ s s′ w (fewer s′ (suc s′) (omega arith) (worked w′)) lt in-list (w′ .went-on s (w .on-path) lt)
+
+  -- and with one set of settings only
+  pub one-settings : (k k′ : Settings) (s s′ : ℕ) → WorkedTo l i c k s → WorkedTo l i c k′ s′ → (j : ℕ) → j < rows l → k j ≡ k′ j
+  one-settings k k′ s s′ w w′ j g =
+      let e = one-end k k′ s s′ w w′ in
+      ⊎-elim
+      (λ (o : onPath l i j ≡ true).
+      let p = on-path-exactly l b i j h .0 o in
+      ⊎-elim
+      (λ (past : s < j). w .past j p past ∙ sym (w′ .past j p (omega arith)))
+      (λ (le : j ≤ s).
+      let few = on-within l b i s h (on l b i h c (w .on-path)) in
+      same-below l b i h c k k′ (suc s) few (worked w) (fewer (suc s) (suc s′) (omega arith) (worked w′)) j p (omega arith))
+      (lt-or-le s j))
+      (λ (o : onPath l i j ≡ false). let n = off-path-exactly l b i j h .0 o in w .off-path j g n ∙ sym (w′ .off-path j g n))
+      (passes-or-fails (onPath l i j))
 
   -- two refusals: the one that is named first in k would fit in k′
   module _ (k k′ : Settings) (j j′ : ℕ) (u : PathUpTo l i c k j) (u′ : PathUpTo l i c k′ j′) where

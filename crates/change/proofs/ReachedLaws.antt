@@ -37,7 +37,7 @@ use Rattle.change.specs.AnyCard.{GoesOn, PathUpTo, PathRefused, NO-PICKU
 use Rattle.change.proofs.SkipLaws.{put-settled, put-settles}
 
 -- row x is the next of the path, on the card c: no row below it stopped the climb, and it and those above it are as found
-pub record Reached (l : List ℕ) (i : ℕ) (c₀ c : List ℕ) (x : ℕ) : Type 0 where
+pub record IsNext (l : List ℕ) (i : ℕ) (c₀ c : List ℕ) (x : ℕ) : Type 0 where
   pub within : x < rows l
   pub left : (z : ℕ) → x ≤ z → onPath l i z ≡ onPath l x z
   pub found : (j : ℕ) → onPath l i j ≡ false → cardRowAt c j ≡ cardRowAt c₀ j
@@ -58,7 +58,7 @@ module _ (l : List ℕ) (a : AllBounded (viewOf l)) (b : Feeds l) (i : ℕ) (h :
   off : {j : ℕ} → (OnPath l i j → ⊥) → onPath l i j ≡ false
   off {j} n = off-path-exactly l b i j h .1 n
 
-  module _ (c : List ℕ) (x : ℕ) (r : Reached l i c₀ c x) where
+  module _ (c : List ℕ) (x : ℕ) (r : IsNext l i c₀ c x) where
     pub on-next : onPath l i x ≡ true
     on-next = r .left x (omega arith) ∙ on-self l b x (r .within)
 
@@ -134,7 +134,7 @@ module _ (l : List ℕ) (a : AllBounded (viewOf l)) (b : Feeds l) (i : ℕ) (h :
       stays q = own ∙ sym q ∙ r .ahead x (omega arith)
 
       -- a row feeds it, and it did not stop the climb: that one is next
-      pub climbs : (field l x atFeeder ≡ 0 → ⊥) → GoesOn i c₀ (cardRowAt c′) x → Reached l i c₀ c′ (field l x atFeeder - 1)
+      pub climbs : (field l x atFeeder ≡ 0 → ⊥) → GoesOn i c₀ (cardRowAt c′) x → IsNext l i c₀ c′ (field l x atFeeder - 1)
       climbs n goes =
           record {
             within = up .within;

@@ -21,12 +21,12 @@ use Rattle.settle.specs.Inequalities.{AvailableOn, PickupMet, DelayMet, SomePic
 abbrev pub AsFound : List ℕ → ℕ → List ℕ → Settings → Type 0
 AsFound l i c k = (j : ℕ) → j < rows l → (OnPath l i j → ⊥) → k j ≡ cardRowAt c j
 
--- and in each row of the path up to row n k is available and meets every condition of section 3
-pub record MeetsTo (l : List ℕ) (i : ℕ) (c : List ℕ) (k : Settings) (n : ℕ) : Type 0 where
+-- and in each row of the path below row n k is available and meets every condition of section 3
+pub record MeetsBelow (l : List ℕ) (i : ℕ) (c : List ℕ) (k : Settings) (n : ℕ) : Type 0 where
   pub off-path : AsFound l i c k
-  pub available : (j : ℕ) → OnPath l i j → j ≤ n → AvailableOn (rowAt l j) (k j .pickup)
-  pub pickups : (j : ℕ) → OnPath l i j → j ≤ n → PickupMet (viewOf l) k j (k j .pickup)
-  pub delays : (j : ℕ) → OnPath l i j → j ≤ n → DelayMet (viewOf l) k j (k j .delay)
+  pub available : (j : ℕ) → OnPath l i j → j < n → AvailableOn (rowAt l j) (k j .pickup)
+  pub pickups : (j : ℕ) → OnPath l i j → j < n → PickupMet (viewOf l) k j (k j .pickup)
+  pub delays : (j : ℕ) → OnPath l i j → j < n → DelayMet (viewOf l) k j (k j .delay)
 
 -- the climb goes on past row j: it is the replaced row, or its new card row is not its old one
 abbrev pub GoesOn : ℕ → List ℕ → Settings → ℕ → Type 0
@@ -49,15 +49,15 @@ pub data PathRefused (l : List ℕ) (i : ℕ) (c : List ℕ) : Answer → Type 0
       (k : Settings) (j : ℕ) → PathUpTo l i c k j → SomePickup (viewOf l) k j → NoDelay (viewOf l) k j →
       PathRefused l i c (Unsettled (j + 1) Delay)
 
--- the climb ends at row s of the path: the rows up to it are at their least settings; it is the first feeding row, after the replaced
--- one, whose new card row equals its old one, or there is none and the source feeds it; the rows past it keep what they had
-pub record WorkedTo (l : List ℕ) (i : ℕ) (c : List ℕ) (k : Settings) (s : ℕ) : Type 0 where
-  pub on-path : OnPath l i s
+-- the climb ends at the row `last` of the path: the rows up to it are at their least settings; it is the first feeding row, after the
+-- replaced one, whose new card row equals its old one, or there is none and the source feeds it; the rows past it keep what they had
+pub record WorkedTo (l : List ℕ) (i : ℕ) (c : List ℕ) (k : Settings) (last : ℕ) : Type 0 where
+  pub on-path : OnPath l i last
   pub off-path : AsFound l i c k
-  pub least : (j : ℕ) → OnPath l i j → j ≤ s → LeastRow (viewOf l) k j
-  pub went-on : (j : ℕ) → OnPath l i j → j < s → GoesOn i c k j
-  pub stopped : (field l s atFeeder ≡ 0) ⊎ ((s ≡ i → ⊥) × (k s ≡ cardRowAt c s))
-  pub past : (j : ℕ) → OnPath l i j → s < j → k j ≡ cardRowAt c j
+  pub least : (j : ℕ) → OnPath l i j → j ≤ last → LeastRow (viewOf l) k j
+  pub went-on : (j : ℕ) → OnPath l i j → j < last → GoesOn i c k j
+  pub stopped : (field l last atFeeder ≡ 0) ⊎ ((last ≡ i → ⊥) × (k last ≡ cardRowAt c last))
+  pub past : (j : ℕ) → OnPath l i j → last < j → k j ≡ cardRowAt c j
 
 -- "The count equals the rows of the path up to and including that one, or the whole path if there is none"
 pub record Visits (l : List ℕ) (i : ℕ) (c : List ℕ) (k : Settings) (count : ℕ) : Type 0 where

@@ -45,4 +45,4 @@ pub data ReplacementGets (l c : List ℕ) (place : ℕ) (row : List ℕ) : Answe
   UNSETTLED :
       {a : Answer} → Passes l c place row → PathRefused (made l place row) (place - 1) c a → ReplacementGets l c place row a
   DONE :
-      (k : Settings) (s : ℕ) → Passes l c place row → WorkedTo (made l place row) (place - 1) c k s → ReplacementGets l c place row Done
+      (k : Settings) (last : ℕ) → Passes l c place row → WorkedTo (made l place row) (place - 1) c k last → ReplacementGets l c place row Done

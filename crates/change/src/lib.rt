@@ -41,7 +41,7 @@ fn rework(list: &[u64], i: usize, card: &mut [u64]) -> HowFar
     work_path(list, i, card)
 }
 
-// Puts the new row in and works its path out; on a refusal the old row goes back.
+// Puts the new row in and works out the rows that it reaches; on a refusal the old row goes back.
 fn exchange(list: &mut [u64], card: &mut [u64], i: usize, row: &[u64]) -> HowFar
     requires { ⌜ ExchangeReady (now list) i (now card) (now row) ⌝ }
     ensures { λ f. ⌜ Exchanged (exchanged (now (list .entry)) (now (card .entry)) i (now (row .entry))) f (now (list .exit)) (now (card .exit)) ⌝ }
@@ -73,7 +73,7 @@ fn answer(list: &mut [u64], card: &mut [u64], place: u64, row: &[u64]) -> HowFar
 }
 
 // The public entry: replaces the row at `place` and works out its path on the card, up to the first feeding row that comes out as it
-// was, or refuses by its numbers, as the whole calculation does.
+// was; or refuses, by section 4's numbers.
 pub fn replace(list: &mut [u64], card: &mut [u64], place: u64, row: &[u64]) -> Replacement
     ensures { λ g. ⌜ Gave (replaced (now (list .entry)) (now (card .entry)) place (now (row .entry))) (g .numbers) (g .rows)
         (now (list .exit)) (now (card .exit)) ⌝ }

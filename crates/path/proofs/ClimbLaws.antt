@@ -1,5 +1,4 @@
--- The climb: row i is settled by the sums as section 3 says, since all rows that it feeds are off its path; then the path of
--- its feeding row is worked out on the card with row i put in, and on a refusal there the old numbers go back.
+-- One row of a climb: row i is settled by the sums as section 3 says, since all rows that it feeds are off its path.
 use mathlib.Core.Path.{_≡_, refl, sym, ap, _∙_}
 use mathlib.Core.Bool.{Bool, true, not}
 use mathlib.Core.List.{List}
@@ -9,7 +8,7 @@ use Rattle.answers.specs.declared.Answer.{Answer}
 use Rattle.answers.specs.declared.Tested.{Tested}
 use Rattle.answers.specs.declared.Tested.the-variants.{Passed, Refused}
 use Rattle.layout.specs.Card.{cardRowAt, putCardRow}
-use Rattle.layout.specs.List.{rows, rowAt}
+use Rattle.layout.specs.List.{rowAt}
 use Rattle.layout.specs.View.{viewOf}
 use Rattle.settle.specs.declared.Settled.{Settled}
 use Rattle.settle.specs.declared.Settled.the-variants.{Set, Unset}
@@ -67,18 +66,18 @@ module _ (l : List ℕ) (i : ℕ) (c s : List ℕ) (r : ClimbReady l i c s) wher
             (record { far = ap HowFar.Refused (same-answer (sym e ∙ z .answer)); card = z .card })
 
     -- what it comes to, where it passed
-    pub record Passes : Type 0 where
+    pub record Comes : Type 0 where
       pub outcome : Outcome
       pub comes-to : comesTo l i c ≡ Set outcome
       pub bounded : CardBounded (shown outcome)
       pub card : c′ ≡ putCardRow c i (shown outcome)
       pub sums : s′ ≡ pushed l (rowAt l i) (shown outcome) s
 
-    pub climb-passes : t ≡ Passed → Passes
+    pub climb-passes : t ≡ Passed → Comes
     unfolding step stepBy
     climb-passes e = by-cases (settledAt l i s) refl z
       where
-        by-cases : (o : Settled) → settledAt l i s ≡ o → Stepped (stepBy l i c s o) t c′ s′ → Passes
+        by-cases : (o : Settled) → settledAt l i s ≡ o → Stepped (stepBy l i c s o) t c′ s′ → Comes
         by-cases (Set o) q z =
             record {
               outcome = o;

@@ -12,14 +12,13 @@ use borrow.Author.Tests.{eqb-true}
 use Rattle.fold.proofs.BoolLaws.{passes-or-fails, not-both}
 use Rattle.answers.specs.declared.Answer.{Answer}
 use Rattle.answers.specs.declared.Tested.{Tested}
-use Rattle.answers.specs.declared.Tested.the-variants.{Refused}
 use Rattle.layout.specs.declared.CardRow.{CardRow}
 use Rattle.layout.specs.Card.{cardRowAt, putCardRow, sameCardRow}
 use Rattle.layout.specs.Counts.{rowsMost}
 use Rattle.layout.specs.Fields.{atFeeder}
 use Rattle.layout.specs.List.{rows, field, rowAt}
 use Rattle.layout.proofs.CardLaws.{putCardRow-own, putCardRow-back}
-use Rattle.settle.specs.Settle.{shown, settled}
+use Rattle.settle.specs.Settle.{shown}
 use Rattle.rowwise.specs.Ready.{Stepped}
 use Rattle.rowwise.specs.Sums.{pushed, step}
 use Rattle.rowwise.specs.WorkOut.{onSettled, workOut}
@@ -34,10 +33,10 @@ use Rattle.path.proofs.PathLaws.{path-length, fed-climbs, on-fed, on-se
 use Rattle.path.proofs.EndLaws.{reworked-done, reworked-refused}
 use Rattle.rows.specs.InRange.{Feeds}
 use Rattle.path.proofs.ReachLaws.{stops-exactly, get-reached, reaches-from}
-use Rattle.path.proofs.ClimbLaws.{off, climb-works, Passes}
+use Rattle.path.proofs.ClimbLaws.{off, climb-works, Comes}
 
 module _ {l : List ℕ} {i : ℕ} {c s : List ℕ} {r : ClimbReady l i c s} {t : Tested} {c′ s′ : List ℕ} {z : Stepped (step l i c s) t c′ s′}
-    (p : Passes l i c s r t c′ s′ z) (feeding : Bool) where
+    (p : Comes l i c s r t c′ s′ z) (feeding : Bool) where
   abbrev feeds : Feeds l
   feeds = r .working .feeds
 

@@ -18,21 +18,21 @@ use Rattle.settle.specs.declared.Settled.the-variants.{Set, Unset}
 use Rattle.settle.specs.Settle.{shown, settled}
 use Rattle.path.specs.Path.{pathOf}
 
--- what row x comes to on the card c
+-- what row j comes to on the card c
 abbrev pub comesTo : List ℕ → ℕ → List ℕ → Settled
-comesTo l x c = settled (viewOf l) (cardRowAt c) x
+comesTo l j c = settled (viewOf l) (cardRowAt c) j
 
--- the rows worked out from row x on, on the card c; `feeding` is false where row x is the replaced one. Row x is the last of them where
+-- the rows worked out from row j on, on the card c; `feeding` is false where row j is the replaced one. Row j is the last of them where
 -- it is refused, where the source feeds it, and, if it is a feeding row, where it comes out as it was; otherwise the row that feeds it
--- is next, on the card with row x put in
+-- is next, on the card with row j put in
 pub data Reaches (l : List ℕ) : Bool → ℕ → List ℕ → List ℕ → Type 0 where
-  refused-there : (feeding : Bool) (x : ℕ) (c : List ℕ) (why : Reason) → comesTo l x c ≡ Unset why → Reaches l feeding x c (x ∷ [])
-  at-source : (feeding : Bool) (x : ℕ) (c : List ℕ) (o : Outcome) → comesTo l x c ≡ Set o → field l x atFeeder ≡ 0 → Reaches l feeding x c (x ∷ [])
-  as-it-was : (x : ℕ) (c : List ℕ) (o : Outcome) → comesTo l x c ≡ Set o → cardRowAt c x ≡ shown o → Reaches l true x c (x ∷ [])
+  refused-there : (feeding : Bool) (j : ℕ) (c : List ℕ) (why : Reason) → comesTo l j c ≡ Unset why → Reaches l feeding j c (j ∷ [])
+  at-source : (feeding : Bool) (j : ℕ) (c : List ℕ) (o : Outcome) → comesTo l j c ≡ Set o → field l j atFeeder ≡ 0 → Reaches l feeding j c (j ∷ [])
+  as-it-was : (j : ℕ) (c : List ℕ) (o : Outcome) → comesTo l j c ≡ Set o → cardRowAt c j ≡ shown o → Reaches l true j c (j ∷ [])
   goes-on :
-      (feeding : Bool) (x : ℕ) (c : List ℕ) (o : Outcome) (is : List ℕ) → comesTo l x c ≡ Set o → (field l x atFeeder ≡ 0 → ⊥) →
-      (feeding ≡ true → cardRowAt c x ≡ shown o → ⊥) → Reaches l true (field l x atFeeder - 1) (putCardRow c x (shown o)) is →
-      Reaches l feeding x c (x ∷ is)
+      (feeding : Bool) (j : ℕ) (c : List ℕ) (o : Outcome) (is : List ℕ) → comesTo l j c ≡ Set o → (field l j atFeeder ≡ 0 → ⊥) →
+      (feeding ≡ true → cardRowAt c j ≡ shown o → ⊥) → Reaches l true (field l j atFeeder - 1) (putCardRow c j (shown o)) is →
+      Reaches l feeding j c (j ∷ is)
 
 -- the rows after one that was `old`, by what it comes to
 unfoldable pub onward : Bool → CardRow → Settled → (CardRow → List ℕ) → List ℕ
@@ -42,7 +42,7 @@ onward feeding old (Unset why) next = []
 -- the rows of `is`, each fed by the one before it, that are worked out on the card c
 unfoldable pub reachFrom : List ℕ → Bool → List ℕ → List ℕ → List ℕ
 reachFrom l feeding [] c = []
-reachFrom l feeding (x ∷ is) c = x ∷ onward feeding (cardRowAt c x) (comesTo l x c) (λ k. reachFrom l true is (putCardRow c x k))
+reachFrom l feeding (j ∷ is) c = j ∷ onward feeding (cardRowAt c j) (comesTo l j c) (λ k. reachFrom l true is (putCardRow c j k))
 
 -- those of the path of the replaced row i
 abbrev pub reach : List ℕ → ℕ → List ℕ → List ℕ

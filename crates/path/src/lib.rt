@@ -161,7 +161,7 @@ fn climb(list: &[u64], i: usize, card: &mut [u64], sums: &mut [u64], feeding: bo
     }
 }
 
-// 11, 12 or 13 before 7 along the path of row i, which is the replaced one and never feeding the climb.
+// 11, 12 or 13 before 7 along the path of row i, the replaced one, which never stops the climb.
 pub fn work_path(list: &[u64], i: usize, card: &mut [u64]) -> HowFar
     requires { ⌜ PathReady (now list) i (now card) ⌝ }
     ensures { λ f. ⌜ WorkedOut (now (list .entry)) (reach (now (list .entry)) i (now (card .entry))) (now (card .entry)) f (now (card .exit)) ⌝ }

@@ -1,4 +1,4 @@
--- `exchange` puts the new row in and works its path out; on a refusal the row that it kept aside goes back.
+-- `exchange` puts the new row in and works out the rows that it reaches; on a refusal the row that it kept aside goes back.
 use mathlib.Core.Path.{refl}
 use native.Mathlib.Omega.{arith}
 use lib.ListN.{replicate}

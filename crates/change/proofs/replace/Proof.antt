@@ -1,6 +1,9 @@
 -- `replace` gives the answer of `answer` in section 4's numbers, with the count.
+use mathlib.Core.Path.{refl}
 use borrow.Author.Needs.{needs}
-use Rattle.change.proofs.EntryLaws.{gave-rows, gave-refused}
+use Rattle.path.specs.declared.HowFar.the-variants.{Rows, Refused}
+use Rattle.change.specs.Ready.{answerOf, countOf}
+use Rattle.change.proofs.EntryLaws.{gave}
 use Rattle.change.proofs.replace.Statement.{statement}
 use Rattle.change.proofs.replace.Tie as tie
 
@@ -26,10 +29,11 @@ same-length-2 : tie.Need-same-length-2
 same-length-2 c = search needs
 
 returns : tie.Need-returns
+unfolding answerOf countOf
 returns c =
     let at-n = c .before .before in
     let at-answer = at-n .before .before .before .before .before .before in
-    gave-rows (at-n .n .given .1) (c .numbers .ensures) (at-answer .answer .ensures)
+    gave (Rows _) (at-n .n .given .1) (c .numbers .ensures) refl (at-answer .answer .ensures)
 
 same-length-3 : tie.Need-same-length-3
 same-length-3 c = search needs
@@ -38,10 +42,11 @@ same-length-4 : tie.Need-same-length-4
 same-length-4 c = search needs
 
 returns-2 : tie.Need-returns-2
+unfolding answerOf countOf
 returns-2 c =
     let at-a = c .before .before in
     let at-answer = at-a .before .before .before .before .before .before in
-    gave-refused (at-a .a .given .1) (c .numbers2 .ensures) (at-answer .answer .ensures)
+    gave (Refused _) (at-a .a .given .1) (c .numbers2 .ensures) refl (at-answer .answer .ensures)
 
 pub replace-spec : {M : Type 1} → statement M
 replace-spec =
