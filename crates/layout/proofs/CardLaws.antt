@@ -1,6 +1,6 @@
 -- A card after a row is put in: that row is the one put in, the others stay, and so does what stands past them.
-use mathlib.Core.Path.{_≡_, refl, sym, ap, _∙_}
-use mathlib.Core.Bool.{Bool, true, _&&_}
+use mathlib.Core.Path.{_≡_, refl, sym, ap, ap₂, _∙_}
+use mathlib.Core.Bool.{Bool, true, false, _&&_}
 use mathlib.Core.Logic.{_≢_, _↔_}
 use mathlib.Core.List.{List}
 use Prim.Native.Nat.{ℕ, zero, suc, _+_, _*_, _≤_, _<_}
@@ -9,7 +9,7 @@ use lib.Dec.{eqb}
 use lib.ListN.{length, getD, take, drop}
 use lib.Seq.{length-sets}
 use borrow.Author.Tests.{eqb-true, eq-eqb}
-use Rattle.fold.proofs.BoolLaws.{and-left, and-right}
+use Rattle.fold.proofs.BoolLaws.{fails, and-left, and-right, and-both}
 use Rattle.blocks.proofs.BlockLaws.{sets-before, sets-behind, sets-stands, sets-is, block-own, block-other, drop-sets, blocks-agree}
 use Rattle.layout.specs.declared.CardRow.{CardRow}
 use Rattle.layout.specs.Counts.{columnCount}
@@ -35,8 +35,17 @@ module _ (a b : CardRow) where
         (eqb-true (a .pickup) (b .pickup) (and-left (eqb (a .pickup) (b .pickup)) (delays && cutoffs) e))
         (eqb-true (a .delay) (b .delay) (and-left delays cutoffs rest))
         (eqb-true (a .cutoff) (b .cutoff) (and-right delays cutoffs rest)),
-    λ e. rw (e, eq-eqb (b .pickup) (b .pickup) refl, eq-eqb (b .delay) (b .delay) refl, eq-eqb (b .cutoff) (b .cutoff) refl),
+    λ e.
+        and-both (eq-eqb (a .pickup) (b .pickup) (λ t. e t .pickup))
+        (and-both (eq-eqb (a .delay) (b .delay) (λ t. e t .delay)) (eq-eqb (a .cutoff) (b .cutoff) (λ t. e t .cutoff))),
   )
+
+  pub other-card-row : (a ≡ b → ⊥) → false ≡ sameCardRow a b
+  other-card-row n = sym (fails (sameCardRow a b) (λ e. n (same-card-row-exactly .0 e)))
+
+  -- the cutoffs are left to compare
+  pub same-but-cutoff : a .pickup ≡ b .pickup → a .delay ≡ b .delay → eqb (a .cutoff) (b .cutoff) ≡ sameCardRow a b
+  same-but-cutoff p d = sym (ap₂ (λ (x y : Bool). x && (y && cutoffs)) (eq-eqb (a .pickup) (b .pickup) p) (eq-eqb (a .delay) (b .delay) d))
 
 pub column-of : (c : List ℕ) (i k : ℕ) → k < columnCount → column c i k ≡ getD (columnsOf (cardRowAt c i)) k 0
 column-of c i zero h = refl

@@ -117,7 +117,7 @@ pub fn in_bounds(table: &[u64], k: usize, x: u64) -> bool
     ensures { λ r. ⌜ r ≡ inBounds (now (table .entry)) k x ⌝ }
 {
     if x < table[2 * k] {
-        return false;
+        return false; // below the least
     }
     x <= table[2 * k + 1]
 }
