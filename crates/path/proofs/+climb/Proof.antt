@@ -44,6 +44,20 @@ callees t = (
   put-card-row-reads.Learnt,
 )
 
+-- where the row's own step is over and known not to be refused: the places that needs look back at, from the test whether it stays
+module _ {t : ℕ} (k : climb-lts.After-stays (callees t) (climb-at t) climb.Post) where
+  abbrev told : climb-lts.After-enum-told (callees t) (climb-at t) climb.Post
+  told = k .before .before
+
+  abbrev worked : climb-lts.After-work-row (callees t) (climb-at t) climb.Post
+  worked = told .before .before .before .before .before .before
+
+  abbrev noted : climb-lts.After-card-row-at (callees t) (climb-at t) climb.Post
+  noted = worked .before .before .before
+
+  abbrev start : climb-lts.Start (callees t) (climb-at t) climb.Post
+  start = noted .before .before .before .before .before
+
 climb-card-row-at-requires : (t : ℕ) → climb-lts.Need-card-row-at-requires (callees t) (climb-at t) climb.Post
 climb-card-row-at-requires t c κs = climb-works _ _ _ _ (c .before .before .before .before .pre .1) .in-card
 
@@ -90,22 +104,13 @@ climb-same-length-4 t c = search needs
 
 climb-returns-2 : (t : ℕ) → climb-lts.Need-returns-2 (callees t) (climb-at t) climb.Post
 climb-returns-2 t c =
-    let at-stays = c .before in
-    let at-enum-told = at-stays .before .before in
-    let at-8 = at-enum-told .before .before .before .before .before in
-    let at-work-row = at-8 .before in
-    let at-card-row-at = at-work-row .before .before .before in
-    let start = at-card-row-at .before .before .before .before .before in
-    let p = climb-passes _ _ _ _ (start .pre .1) _ _ _ (at-work-row .work-row .ensures) (at-enum-told .enum-told .given .1) in
-    climb-stops p (start .args .feeding) _ (at-card-row-at .card-row-at .ensures) _ (at-stays .stays .ensures) (c .if1 .taken)
+    let k = c .before in
+    let p = climb-passes _ _ _ _ (start k .pre .1) _ _ _ (worked k .work-row .ensures) (told k .enum-told .given .1) in
+    climb-stops p (start k .args .feeding) _ (noted k .card-row-at .ensures) _ (k .stays .ensures) (c .if1 .taken)
 
 climb-field-at-requires : (t : ℕ) → climb-lts.Need-field-at-requires (callees t) (climb-at t) climb.Post
 climb-field-at-requires t c κs =
-    let at-5 = c .before .before .before .before .before in
-    let at-10 = at-5 .before .before .before .before .before in
-    let at-15 = at-10 .before .before .before .before .before in
-    let start = at-15 .before .before in
-    let k = climb-works _ _ _ _ (start .pre .1) in omega (arith, k .is-row)
+    let w = climb-works _ _ _ _ (start (c .before) .pre .1) in omega (arith, w .is-row)
 
 climb-same-length-5 : (t : ℕ) → climb-lts.Need-same-length-5 (callees t) (climb-at t) climb.Post
 climb-same-length-5 t c = search needs
@@ -115,38 +120,26 @@ climb-same-length-6 t c = search needs
 
 climb-returns-3 : (t : ℕ) → climb-lts.Need-returns-3 (callees t) (climb-at t) climb.Post
 climb-returns-3 t c =
-    let at-field-at = c .before in
-    let at-if1 = at-field-at .before in
-    let at-stays = at-if1 .before in
-    let at-enum-told = at-stays .before .before in
-    let at-10 = at-enum-told .before .before .before .before .before in
-    let at-work-row = at-10 .before in
-    let at-card-row-at = at-work-row .before .before .before in
-    let start = at-card-row-at .before .before .before .before .before in
-    let p = climb-passes _ _ _ _ (start .pre .1) _ _ _ (at-work-row .work-row .ensures) (at-enum-told .enum-told .given .1) in
-    climb-source p (start .args .feeding) _ (at-card-row-at .card-row-at .ensures) _ (at-stays .stays .ensures)
-    (at-if1 .if1 .left) _ (at-field-at .field-at .ensures) (c .if2 .taken)
+    let read = c .before in
+    let k = read .before .before in
+    let p = climb-passes _ _ _ _ (start k .pre .1) _ _ _ (worked k .work-row .ensures) (told k .enum-told .given .1) in
+    climb-source p (start k .args .feeding) _ (noted k .card-row-at .ensures) _ (k .stays .ensures) (read .before .if1 .left) _
+    (read .field-at .ensures) (c .if2 .taken)
 
 climb-sub-climb : (t : ℕ) → climb-lts.Need-sub-climb (callees t) (climb-at t) climb.Post
 climb-sub-climb t c = search needs
 
 climb-climb-requires : (t : ℕ) → climb-lts.Need-climb-requires (callees t) (climb-at t) climb.Post
 climb-climb-requires t c κs =
-    let at-if2 = c .before .before in
-    let at-field-at = at-if2 .before in
-    let at-if1 = at-field-at .before in
-    let at-stays = at-if1 .before in
-    let at-enum-told = at-stays .before .before in
-    let at-12 = at-enum-told .before .before .before .before .before in
-    let at-work-row = at-12 .before in
-    let at-card-row-at = at-work-row .before .before .before in
-    let start = at-card-row-at .before .before .before .before .before in
-    let p = climb-passes _ _ _ _ (start .pre .1) _ _ _ (at-work-row .work-row .ensures) (at-enum-told .enum-told .given .1) in (
-      subst (λ (n : ℕ). rows (start .args .list .now) - (at-field-at .field-at .result - 1) < n) (start .pre .0)
-          (climb-less p (start .args .feeding) _ (at-card-row-at .card-row-at .ensures) _ (at-stays .stays .ensures)
-          (at-if1 .if1 .left) _ (at-field-at .field-at .ensures) (at-if2 .if2 .left)),
-      climb-on p (start .args .feeding) _ (at-card-row-at .card-row-at .ensures) _ (at-stays .stays .ensures)
-          (at-if1 .if1 .left) _ (at-field-at .field-at .ensures) (at-if2 .if2 .left),
+    let fed = c .before .before in
+    let read = fed .before in
+    let k = read .before .before in
+    let p = climb-passes _ _ _ _ (start k .pre .1) _ _ _ (worked k .work-row .ensures) (told k .enum-told .given .1) in (
+      subst (λ (n : ℕ). rows (start k .args .list .now) - (read .field-at .result - 1) < n) (start k .pre .0)
+          (climb-less p (start k .args .feeding) _ (noted k .card-row-at .ensures) _ (k .stays .ensures) (read .before .if1 .left) _
+          (read .field-at .ensures) (fed .if2 .left)),
+      climb-on p (start k .args .feeding) _ (noted k .card-row-at .ensures) _ (k .stays .ensures) (read .before .if1 .left) _
+          (read .field-at .ensures) (fed .if2 .left),
     )
 
 climb-enum-known-a : (t : ℕ) → climb-lts.Need-enum-known-a (callees t) (climb-at t) climb.Post
@@ -154,35 +147,25 @@ climb-enum-known-a t c = search needs
 
 climb-put-card-row-requires : (t : ℕ) → climb-lts.Need-put-card-row-requires (callees t) (climb-at t) climb.Post
 climb-put-card-row-requires t c κs =
-    let at-5 = c .before .before .before .before .before in
-    let at-climb = at-5 .before .before .before in
-    let at-13 = at-climb .before .before .before .before .before in
-    let at-18 = at-13 .before .before .before .before .before in
-    let at-work-row = at-18 .before .before .before .before in
-    let at-27 = at-work-row .before .before .before .before .before in
-    let start = at-27 .before .before .before in
-    let k = climb-works _ _ _ _ (start .pre .1) in omega (arith, k .in-card, at-work-row .work-row .kept .1 .1 .0, at-climb .climb .kept .1 .1 .0)
+    let a = c .before .before in
+    let above = a .before .before .before .before .before .before in
+    let k = above .before .before .before .before .before .before in
+    let w = climb-works _ _ _ _ (start k .pre .1) in omega (arith, w .in-card, worked k .work-row .kept .1 .1 .0, above .climb .kept .1 .1 .0)
 
 climb-enum-known-n : (t : ℕ) → climb-lts.Need-enum-known-n (callees t) (climb-at t) climb.Post
 climb-enum-known-n t c = search needs
 
 climb-add-t33 : (t : ℕ) → climb-lts.Need-add-t33 (callees t) (climb-at t) climb.Post
 climb-add-t33 t c =
-    let at-n = c .before in
-    let at-6 = at-n .before .before .before .before .before in
-    let at-climb = at-6 .before in
-    let at-if2 = at-climb .before .before .before in
-    let at-field-at = at-if2 .before in
-    let at-if1 = at-field-at .before in
-    let at-stays = at-if1 .before in
-    let at-enum-told = at-stays .before .before in
-    let at-20 = at-enum-told .before .before .before .before .before in
-    let at-work-row = at-20 .before in
-    let at-card-row-at = at-work-row .before .before .before in
-    let start = at-card-row-at .before .before .before .before .before in
-    let p = climb-passes _ _ _ _ (start .pre .1) _ _ _ (at-work-row .work-row .ensures) (at-enum-told .enum-told .given .1) in
-    let k = climb-counts p (start .args .feeding) _ (at-card-row-at .card-row-at .ensures) _ (at-stays .stays .ensures)
-    (at-if1 .if1 .left) _ (at-field-at .field-at .ensures) (at-if2 .if2 .left) _ _ _ (at-climb .climb .ensures) (at-n .n .given .1) in omega (arith, k)
+    let n = c .before in
+    let above = n .before .before .before .before .before .before in
+    let fed = above .before .before .before in
+    let read = fed .before in
+    let k = read .before .before in
+    let p = climb-passes _ _ _ _ (start k .pre .1) _ _ _ (worked k .work-row .ensures) (told k .enum-told .given .1) in
+    let few = climb-counts p (start k .args .feeding) _ (noted k .card-row-at .ensures) _ (k .stays .ensures) (read .before .if1 .left) _
+    (read .field-at .ensures) (fed .if2 .left) _ _ _
+    (above .climb .ensures) (n .n .given .1) in omega (arith, few)
 
 climb-same-length-7 : (t : ℕ) → climb-lts.Need-same-length-7 (callees t) (climb-at t) climb.Post
 climb-same-length-7 t c = search needs
@@ -192,23 +175,16 @@ climb-same-length-8 t c = search needs
 
 climb-returns-4 : (t : ℕ) → climb-lts.Need-returns-4 (callees t) (climb-at t) climb.Post
 climb-returns-4 t c =
-    let at-put-card-row = c .before .before in
-    let at-a = at-put-card-row .before .before .before in
-    let at-10 = at-a .before .before .before .before .before in
-    let at-climb = at-10 .before in
-    let at-if2 = at-climb .before .before .before in
-    let at-field-at = at-if2 .before in
-    let at-if1 = at-field-at .before in
-    let at-stays = at-if1 .before in
-    let at-enum-told = at-stays .before .before in
-    let at-24 = at-enum-told .before .before .before .before .before in
-    let at-work-row = at-24 .before in
-    let at-card-row-at = at-work-row .before .before .before in
-    let start = at-card-row-at .before .before .before .before .before in
-    let p = climb-passes _ _ _ _ (start .pre .1) _ _ _ (at-work-row .work-row .ensures) (at-enum-told .enum-told .given .1) in
-    climb-back p (start .args .feeding) _ (at-card-row-at .card-row-at .ensures) _ (at-stays .stays .ensures)
-    (at-if1 .if1 .left) _ (at-field-at .field-at .ensures) (at-if2 .if2 .left) _ _ _ _ (at-climb .climb .ensures)
-    (at-a .a .given .1) (at-put-card-row .put-card-row .ensures)
+    let put = c .before .before in
+    let a = put .before .before .before in
+    let above = a .before .before .before .before .before .before in
+    let fed = above .before .before .before in
+    let read = fed .before in
+    let k = read .before .before in
+    let p = climb-passes _ _ _ _ (start k .pre .1) _ _ _ (worked k .work-row .ensures) (told k .enum-told .given .1) in
+    climb-back p (start k .args .feeding) _ (noted k .card-row-at .ensures) _ (k .stays .ensures) (read .before .if1 .left) _
+    (read .field-at .ensures) (fed .if2 .left) _ _ _ _
+    (above .climb .ensures) (a .a .given .1) (put .put-card-row .ensures)
 
 climb-same-length-9 : (t : ℕ) → climb-lts.Need-same-length-9 (callees t) (climb-at t) climb.Post
 climb-same-length-9 t c = search needs
@@ -218,21 +194,15 @@ climb-same-length-10 t c = search needs
 
 climb-returns-5 : (t : ℕ) → climb-lts.Need-returns-5 (callees t) (climb-at t) climb.Post
 climb-returns-5 t c =
-    let at-n = c .before in
-    let at-6 = at-n .before .before .before .before .before in
-    let at-climb = at-6 .before in
-    let at-if2 = at-climb .before .before .before in
-    let at-field-at = at-if2 .before in
-    let at-if1 = at-field-at .before in
-    let at-stays = at-if1 .before in
-    let at-enum-told = at-stays .before .before in
-    let at-20 = at-enum-told .before .before .before .before .before in
-    let at-work-row = at-20 .before in
-    let at-card-row-at = at-work-row .before .before .before in
-    let start = at-card-row-at .before .before .before .before .before in
-    let p = climb-passes _ _ _ _ (start .pre .1) _ _ _ (at-work-row .work-row .ensures) (at-enum-told .enum-told .given .1) in
-    climb-done p (start .args .feeding) _ (at-card-row-at .card-row-at .ensures) _ (at-stays .stays .ensures)
-    (at-if1 .if1 .left) _ (at-field-at .field-at .ensures) (at-if2 .if2 .left) _ _ _ (at-climb .climb .ensures) (at-n .n .given .1)
+    let n = c .before in
+    let above = n .before .before .before .before .before .before in
+    let fed = above .before .before .before in
+    let read = fed .before in
+    let k = read .before .before in
+    let p = climb-passes _ _ _ _ (start k .pre .1) _ _ _ (worked k .work-row .ensures) (told k .enum-told .given .1) in
+    climb-done p (start k .args .feeding) _ (noted k .card-row-at .ensures) _ (k .stays .ensures) (read .before .if1 .left) _
+    (read .field-at .ensures) (fed .if2 .left) _ _ _
+    (above .climb .ensures) (n .n .given .1)
 
 pub +climb-spec : {M : Type 1} → statement M
 +climb-spec = close μ-climb λ t. climb-lts.spec (callees t)
