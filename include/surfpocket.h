@@ -12,7 +12,7 @@
    - The caller was compiled with the header of the library that it is linked with: see SURFPOCKET_VERSION.
    - There is stack enough. Measured on x86-64 with 256 rows, and rounded up:
          surfpocket_whole      20 KiB
-         surfpocket_replace    92 KiB for the first row of a chain: 18 KiB at most, and 288 bytes a row that is worked out
+         surfpocket_replace    92 KiB for the first row of a chain; 288 bytes less for each row that is not worked out
          surfpocket_study       1 KiB
          surfpocket_differential 1 KiB
          surfpocket_card       96 KiB
