@@ -33,13 +33,16 @@ extern "C" {
 /* Grows with every change of a number or a struct of this header. A caller built with another header than the library's would be
    misread in silence, or its struct written past its end: where that can happen, as with a shared object, compare the two first,
    and stop if they differ. */
-#define SURFPOCKET_VERSION 5
+#define SURFPOCKET_VERSION 6
 uint64_t surfpocket_version(void);
 
 /* Sizes. The first two grow in later versions, so use their names.
    A row of a list is SURFPOCKET_SIZE_FIELDS numbers, in the order of the README's table; a row of a card is
-   SURFPOCKET_SIZE_COLUMNS: pickup in mA, delay in ms, cutoff in mA or 0 for none. */
-#define SURFPOCKET_SIZE_FIELDS 18
+   SURFPOCKET_SIZE_COLUMNS: pickup in mA, delay in ms, cutoff in mA or 0 for none. The last two fields are the current transformer's
+   rated primary and rated secondary in A. With 0 in both, the row's low, high and step and its pickup and cutoff on the card are
+   primary mA; otherwise all five are secondary mA, the number keyed at the relay, and the primary current is that number times the
+   rated primary over the rated secondary. All other currents of a row are primary. */
+#define SURFPOCKET_SIZE_FIELDS 20
 #define SURFPOCKET_SIZE_COLUMNS 3
 /* The most rows of a list, and the most bytes of its text. */
 #define SURFPOCKET_SIZE_ROWS 256
@@ -127,16 +130,19 @@ typedef struct {
 
 /* The whole calculation: gives DONE and writes the settings of each row to the front of the card, or gives the first refusal and
    leaves the card as it was. The card's numbers past its rows stay.
-   Order: COUNT (no row, over 256, or a partial row: a length that is no multiple of 18), ROOM (fewer than 3 card numbers a row),
-   FIELD over all rows ascending (in a row its fields ascending, then low above high, which is field 12), TREE over all rows
-   ascending, then row by row RANGE, OWN ZONE or BACKUP before DELAY. For RANGE, OWN ZONE and BACKUP the least pickup is taken that
-   the relay offers and that meets P1 and P2: RANGE where there is none, OWN ZONE where it fails P3, BACKUP where it passes P3 and
-   fails P4 for a fed row, the first of which is named. No other pickup that the relay offers would do either.
+   Order: COUNT (no row, over 256, or a partial row: a length that is no multiple of 20), ROOM (fewer than 3 card numbers a row),
+   FIELD over all rows ascending (in a row its fields ascending, then low above high, which is field 12, then high x rated primary
+   above 100,000,000 x rated secondary, which is field 13; where field 19 is not 0, fields 12, 13 and 14 go to 500,000 only; field 20
+   is 1 or 5 there, and 0 where field 19 is 0), TREE over all rows ascending, then row by row RANGE, OWN ZONE or BACKUP before
+   DELAY. For RANGE, OWN ZONE and BACKUP the least pickup is taken that the relay offers and that meets P1 and P2: RANGE where there
+   is none, OWN ZONE where it fails P3, BACKUP where it passes P3 and fails P4 for a fed row, the first of which is named. No other
+   pickup that the relay offers would do either.
    A delay is at least that of each fed row plus the larger of the two rows' time steps: 300, 500 or 200 ms for device 1, 2 or 3
-   (libraries from before this rule took the fed row's alone). The other conditions are those of the README's table. */
+   (libraries from before this rule took the fed row's alone). The other conditions are those of the README's table. They are judged
+   on the exact primary currents, nothing being rounded. */
 SurfpocketAnswer surfpocket_whole(const uint64_t *list, size_t list_length, uint64_t *card, size_t card_length);
 
-/* The replacement of the row at a place (from 1) by a row of 18 numbers that keeps its number and its feeder: gives DONE, puts the
+/* The replacement of the row at a place (from 1) by a row of 20 numbers that keeps its number and its feeder: gives DONE, puts the
    row into the list and works out on the card the rows from it towards the source, or gives the first refusal and leaves list and
    card as they were (it may have written both meanwhile).
    The last row worked out is the first feeding row, after the replaced one, whose new card row equals its old one in all its
@@ -145,9 +151,10 @@ SurfpocketAnswer surfpocket_whole(const uint64_t *list, size_t list_length, uint
    worked out: once CARD is passed they keep what they had and refuse nothing. On the card of an accepted list they are what starting
    afresh would give; on a card that is not the list's they may be anything that CARD lets in.
    Card rows off the path are read as they are and stay, and so do the card's numbers past its rows.
-   Order: COUNT, ROOM, EDIT (no row has that place, the new row is not 18 numbers, or its number or feeder is another), then FIELD
+   Order: COUNT, ROOM, EDIT (no row has that place, the new row is not 20 numbers, or its number or feeder is another), then FIELD
    and TREE over the list as it would be, CARD over all rows ascending (pickup 1 to 100,000,000, delay 0 to 100,000, cutoff 0 to
-   100,000,000), then RANGE, OWN ZONE or BACKUP before DELAY row by row along the rows worked out. */
+   100,000,000; pickup and cutoff only to 500,000 in a row, other than the replaced one, that has a ratio in the list as it would be),
+   then RANGE, OWN ZONE or BACKUP before DELAY row by row along the rows worked out. */
 SurfpocketReplacement surfpocket_replace(uint64_t *list, size_t list_length, uint64_t *card, size_t card_length, uint64_t place,
                                          const uint64_t *row, size_t row_length);
 

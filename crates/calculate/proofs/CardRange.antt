@@ -1,6 +1,7 @@
--- The card that the whole calculation gives, in range as 9 CARD asks [01 §4]: pickups 1 to 100,000,000, delays to 100,000, cutoffs to 100,000,000.
+-- The card that the whole calculation gives, in range as 9 CARD asks [01 §4], [02 §1]: pickups from 1 and cutoffs to 100,000,000, of secondary rows
+-- to 500,000, delays to 100,000.
 -- And it has as many numbers as the lent one.
-use mathlib.Core.Path.{_≡_, refl}
+use mathlib.Core.Path.{_≡_, refl, sym, subst}
 use mathlib.Core.Bool.{Bool, true, false, cond}
 use mathlib.Core.List.{List}
 use Prim.Native.Nat.{ℕ, _≤_, _<_}
@@ -10,19 +11,21 @@ use lib.ListN.{length}
 use Rattle.fold.specs.declared.Found.{Found}
 use Rattle.fold.specs.declared.Found.the-variants.{At, Nothing}
 use Rattle.fold.proofs.BoolLaws.{zero-not-one}
-use Rattle.grid.proofs.GridLaws.{leastOn-least}
 use Rattle.answers.specs.declared.Answer.{Answer}
 use Rattle.answers.specs.declared.Answer.the-variants.{Done}
 use Rattle.answers.specs.declared.Tested.{Tested}
 use Rattle.answers.specs.declared.Tested.the-variants.{Passed, Refused}
 use Rattle.layout.specs.declared.Row.{Row}
 use Rattle.layout.specs.Card.{cardRowAt}
-use Rattle.layout.specs.List.{rows}
+use Rattle.layout.specs.List.{rows, rowAt}
 use Rattle.layout.specs.Range.{Bounded, CardRowInRange}
 use Rattle.layout.specs.View.{View, viewOf, Settings}
 use Rattle.rows.specs.Tests.{sizeTest, rowsTest}
 use Rattle.settle.specs.declared.Cutoff.the-variants.{Fitted, NotFitted}
-use Rattle.settle.specs.Conditions.{staysClear, seesNear}
+use Rattle.sides.specs.declared.Secondary.{Secondary}
+use Rattle.sides.specs.Sides.{keyed, settingMost}
+use Rattle.settle.specs.Conditions.{primaryOf, staysClear, seesNear}
+use Rattle.settle.proofs.PickupLaws.{found-bounded}
 use Rattle.settle.specs.Inequalities.{LeastRow}
 use Rattle.settle.specs.Settle.{leastPickup, fitting, cutoffOf, printed}
 use Rattle.rowwise.specs.WorkOut.{Worked, finished, refused, onPassed}
@@ -34,34 +37,34 @@ use Rattle.calculate.proofs.FrameLaws.{calculation-keeps}
 use Rattle.calculate.proofs.RefusedLaws.{refused-not-done}
 
 -- a cutoff is one of the row's pickups, or 0
-pub cutoff-to : (r : Row) → Bounded r → printed (cutoffOf r) ≤ 100000000
+pub cutoff-to : (r : Row) → Bounded r → printed (cutoffOf r) .0 ≤ settingMost (r .ratio .primary)
 unfolding cutoffOf fitting printed
 cutoff-to r b = by-cases (leastPickup r (staysClear r)) refl
   where
-    by-sight : (v : Bool) (C : ℕ) → C ≤ 100000000 → printed (cond v (Fitted C) NotFitted) ≤ 100000000
+    by-sight : (v : Bool) (C : ℕ) → C ≤ settingMost (r .ratio .primary) → printed (cond v (Fitted (keyed C)) NotFitted) .0 ≤ settingMost (r .ratio .primary)
     by-sight true C q = q
     by-sight false C q = omega arith
 
-    by-cases : (f : Found) → leastPickup r (staysClear r) ≡ f → printed (fitting r f) ≤ 100000000
-    by-cases (At C) e = by-sight (seesNear r C) C (le-trans (leastOn-least _ _ _ (b .step-from) (staysClear r) C e .available .within) (b .high-to))
+    by-cases : (f : Found) → leastPickup r (staysClear r) ≡ f → printed (fitting r f) .0 ≤ settingMost (r .ratio .primary)
+    by-cases (At C) e = by-sight (seesNear r (primaryOf r (keyed C))) C (found-bounded r b _ C e)
     by-cases Nothing e = omega arith
 
 -- a row at its least settings is in range
-pub least-in-range : (v : View) (k : Settings) (i : ℕ) → Bounded (v .row i) → LeastRow v k i → CardRowInRange (k i)
+pub least-in-range : (v : View) (k : Settings) (i : ℕ) → Bounded (v .row i) → LeastRow v k i → CardRowInRange (settingMost (v .row i .ratio .primary)) (k i)
 least-in-range v k i b m =
     let low = b .low-from in
     record {
       pickup-from = omega (arith, m .available .on-grid);
       pickup-to = le-trans (m .available .within) (b .high-to);
       delay-to = le-trans (m .delay .D1 .1) (b .ceiling-to);
-      cutoff-to = rw (m .cutoff) (cutoff-to (v .row i) b);
+      cutoff-to = subst (λ (C : Secondary). C .0 ≤ settingMost (v .row i .ratio .primary)) (sym (m .cutoff)) (cutoff-to (v .row i) b);
     }
 
 module _ (l c : List ℕ) where
-  pub card-in-range : whole l c .answer ≡ Done → (i : ℕ) → i < rows l → CardRowInRange (cardRowAt (whole l c .card) i)
+  pub card-in-range : whole l c .answer ≡ Done → (i : ℕ) → i < rows l → CardRowInRange (settingMost (rowAt l i .ratio .primary)) (cardRowAt (whole l c .card) i)
   card-in-range e i h = of-gets (every-list-gets l c (whole l c .answer) .0 refl) e
     where
-      of-gets : {a : Answer} → Gets l c a → a ≡ Done → CardRowInRange (cardRowAt (whole l c .card) i)
+      of-gets : {a : Answer} → Gets l c a → a ≡ Done → CardRowInRange (settingMost (rowAt l i .ratio .primary)) (cardRowAt (whole l c .card) i)
       of-gets (Gets.COUNT n) q = absurd (zero-not-one cc)
       of-gets (Gets.ROOM s n) q = absurd (zero-not-one cc)
       of-gets (Gets.FIELD s r j k f) q = absurd (zero-not-one cc)

@@ -2,7 +2,7 @@
 --     accepted-meets          the card given meets every condition of pickup, sensitivity, delay and step together
 --     settings-accepted       where some available settings meet them all, a card is given
 --     accepted-exactly        the two together
---     no-lower-no-shorter     no other set that does has a lower pickup or a shorter delay in any row
+--     no-lower-no-shorter     no other set that does has a pickup lower in primary or a shorter delay in any row
 --     cutoff-column           the cutoff column is section 3's, which `cutoff-exactly` of settle says by inequalities
 --     refused-names           any other list gets 11, 12, 13 or 7 at the first row that no pickup, or else no delay, fits
 --     past-the-card-kept, refused-card-kept      what stands in the lent card otherwise
@@ -31,6 +31,7 @@ use Rattle.rows.specs.Tests.{sizeTest, rowsTest}
 use Rattle.rows.proofs.InRangeLaws.{in-range-passes}
 use Rattle.rows.proofs.ExactLaws.{get-size, size-rows}
 use Rattle.settle.specs.Settle.{cutoffOf, printed}
+use Rattle.settle.specs.Conditions.{pickupAt}
 use Rattle.settle.specs.Inequalities.{LeastRow, RowSettled}
 use Rattle.settle.proofs.SameLaws.{fed-below}
 use Rattle.settle.proofs.CauseTheorems.{cause-no-pickup}
@@ -109,7 +110,7 @@ module _ (l c : List ℕ) (size : RightSize l) (room : HasRoom l (length c)) (a 
         by-cases (refused-by x d (NO-PICKUP s i why u n)) = pickup-fits v (fed-below l b) s k m i (u .is-row) (u .rows-below) (cause-no-pickup v s i n)
         by-cases (refused-by x d (DELAY s i u p n)) = pickup-not-delay (sym e ∙ d)
 
-    pub no-lower-pickup : whole l c .answer ≡ Done → (i : ℕ) → i < rows l → cardRowAt (whole l c .card) i .pickup ≤ k i .pickup
+    pub no-lower-pickup : whole l c .answer ≡ Done → (i : ℕ) → i < rows l → pickupAt (viewOf l) (cardRowAt (whole l c .card)) i .0 ≤ pickupAt (viewOf l) k i .0
     unfolding v card
     no-lower-pickup e = pickups-under v (fed-below l b) card k m (rows l) (omega arith) (accepted-least e)
 
@@ -139,7 +140,8 @@ module _ (l c : List ℕ) (size : RightSize l) (room : HasRoom l (length c)) (a 
         by-cases (refused-by x d (DELAY s i u p n)) = absurd (delays-exist k (m .delays) (i + 1) d)
 
     pub no-lower-no-shorter :
-        (i : ℕ) → i < rows l → (cardRowAt (whole l c .card) i .pickup ≤ k i .pickup) × (cardRowAt (whole l c .card) i .delay ≤ k i .delay)
+        (i : ℕ) → i < rows l →
+        (pickupAt (viewOf l) (cardRowAt (whole l c .card)) i .0 ≤ pickupAt (viewOf l) k i .0) × (cardRowAt (whole l c .card) i .delay ≤ k i .delay)
     no-lower-no-shorter i h =
         (no-lower-pickup k (m .pickups) settings-accepted i h, no-shorter-delay k (m .delays) settings-accepted i h)
 

@@ -11,7 +11,8 @@ use Rattle.answers.specs.declared.Tested.{Tested}
 use Rattle.answers.specs.declared.Tested.the-variants.{Passed, Refused}
 use Rattle.layout.specs.Card.{cardRowAt}
 use Rattle.layout.specs.Counts.{columnCount}
-use Rattle.layout.specs.List.{rows}
+use Rattle.layout.specs.List.{rows, rowAt}
+use Rattle.sides.specs.Sides.{settingMost}
 use Rattle.layout.specs.View.{viewOf}
 use Rattle.layout.specs.Range.{CardRowInRange}
 use Rattle.rows.specs.InRange.{InRange}
@@ -60,7 +61,7 @@ accepts l c₀ c e = by-size (sizeTest (length l) (length c₀)) refl
 
 -- a card row at its own least settings passes CARD
 module _ (l : List ℕ) (a : InRange l) (c : List ℕ) (j : ℕ) (h : j < rows l) (s : Settles l c j) where
-  pub settled-fits : CardRowInRange (cardRowAt c j)
+  pub settled-fits : CardRowInRange (settingMost (rowAt l j .ratio .primary)) (cardRowAt c j)
   settled-fits =
       let b = a j h .bounded in
       least-in-range (viewOf l) (cardRowAt c) j b (settled-least (viewOf l) (cardRowAt c) j (b .step-from) s)

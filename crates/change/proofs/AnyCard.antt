@@ -19,7 +19,8 @@ use native.Mathlib.Numerals.{add-one}
 use Rattle.answers.specs.declared.Answer.the-variants.{Done}
 use Rattle.layout.specs.Card.{cardRowAt}
 use Rattle.layout.specs.List.{rows}
-use Rattle.layout.specs.View.{Settings}
+use Rattle.layout.specs.View.{viewOf, Settings}
+use Rattle.settle.specs.Conditions.{pickupAt}
 use Rattle.path.specs.Path.{Nth}
 use Rattle.path.proofs.OnPathLaws.{nth-one}
 use Rattle.change.specs.AnyCard.{MeetsBelow, PathRefused, WorkedTo, Visits}
@@ -72,7 +73,8 @@ module _ (l c : List ℕ) (place : ℕ) (row : List ℕ) (p : Passes l c place r
   pub path-least :
       (last : ℕ) → WorkedTo (made l place row) (place - 1) c (cardRowAt (replaced l c place row .card)) last → (k : Settings) →
       MeetsBelow (made l place row) (place - 1) c k (last + 1) → (j : ℕ) → j ≤ last →
-      (cardRowAt (replaced l c place row .card) j .pickup ≤ k j .pickup) × (cardRowAt (replaced l c place row .card) j .delay ≤ k j .delay)
+      (pickupAt (viewOf (made l place row)) (cardRowAt (replaced l c place row .card)) j .0 ≤ pickupAt (viewOf (made l place row)) k j .0) ×
+      (cardRowAt (replaced l c place row .card) j .delay ≤ k j .delay)
   path-least last w k m =
       under l′ (p .feeds) (place - 1) row-of-it c card k last w (subst (MeetsBelow l′ (place - 1) c k) (add-one last) m)
 

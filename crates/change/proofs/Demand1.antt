@@ -59,9 +59,9 @@ module _ (l c : List ℕ) (place : ℕ) (row : List ℕ) where
     unfolding reworked onPassed outcome
     by-rows a g = goes-on ∙ rw (get-rows l′ few g)
 
-    by-card : (a : Answer) → InRange l′ → Feeds l′ → CardGets l′ c (Refused a) → answer ≡ a
+    by-card : (a : Answer) → InRange l′ → Feeds l′ → CardGets l′ (place - 1) c (Refused a) → answer ≡ a
     unfolding reworked onPassed outcome
-    by-card a r b g = goes-on ∙ rw (get-rows l′ few (RowsGet.passed r b), get-card l′ c g)
+    by-card a r b g = goes-on ∙ rw (get-rows l′ few (RowsGet.passed r b), get-card l′ (place - 1) c g)
 
   by-size : (a : Answer) → SizeGets l (length c) (Refused a) → answer ≡ a
   unfolding answerOf
@@ -99,13 +99,13 @@ module _ (l c : List ℕ) (place : ℕ) (row : List ℕ) where
       path p (Ended.done d v) = given (ReplacementGets.DONE (cardRowAt (replaced l c place row .card)) (v .last) p (v .worked))
       path p (Ended.refused-by x d z) = given (ReplacementGets.UNSETTLED p z)
 
-      cards : Fits l c place row → InRange l′ → Feeds l′ → {t : Tested} → CardGets l′ c t → ReplacementGets l c place row answer
+      cards : Fits l c place row → InRange l′ → Feeds l′ → {t : Tested} → CardGets l′ (place - 1) c t → ReplacementGets l c place row answer
       cards f r b (CardGets.passed k) =
           let p : Passes l c place row = record { fits = f; in-range = r; feeds = b; card = k } in path p (ended l c place row p)
       cards f r b (CardGets.CARD i w) = given (ReplacementGets.CARD i f r b w)
 
       list : Fits l c place row → {t : Tested} → RowsGet l′ t → ReplacementGets l c place row answer
-      list f (RowsGet.passed r b) = cards f r b (card-gets l′ c)
+      list f (RowsGet.passed r b) = cards f r b (card-gets l′ (place - 1) c)
       list f (RowsGet.FIELD i k w) = given (ReplacementGets.FIELD i k f w)
       list f (RowsGet.TREE i r w) = given (ReplacementGets.TREE i f r w)
 

@@ -32,7 +32,7 @@ module _ (l : List ℕ) (i : ℕ) (c : List ℕ) where
   unfolding reworked onPassed farOf cardOf
   rework-rows t a e f = rw (sym e ∙ f) (record { far = refl; card = refl })
 
-  module _ (t : Tested) (e : t ≡ rowsTest l) (f : t ≡ Passed) (t′ : Tested) (e′ : t′ ≡ cardTest l c) where
+  module _ (t : Tested) (e : t ≡ rowsTest l) (f : t ≡ Passed) (t′ : Tested) (e′ : t′ ≡ cardTest l i c) where
     pub rework-card : (a : Answer) → t′ ≡ Refused a → Reworked (reach l i c) (reworked l i c) c (HowFar.Refused a) c
     unfolding reworked onPassed farOf cardOf
     rework-card a f′ = rw (sym e ∙ f, sym e′ ∙ f′) (record { far = refl; card = refl })
@@ -58,7 +58,7 @@ module _ (l c : List ℕ) (i : ℕ) (row l′ : List ℕ) (el : l′ ≡ putList
       let count : n ≡ length (reach (putList l i row) i c) = b .1 ∙ ap (λ (l : List ℕ). length (reach l i c)) el in
       rw (e, worked ∙ b .0) (record { answer = refl; count = count; list = el; card = refl })
 
-  -- refused: the old row, which was kept aside in 18 numbers, goes back
+  -- refused: the old row, which was kept aside in 20 numbers, goes back
   pub exchange-refused :
       (a : Answer) (y old l″ : List ℕ) → x ≡ HowFar.Refused a → PutReady l i row → length y ≡ fieldCount →
       old ≡ putList y 0 (take (i * fieldCount + fieldCount - i * fieldCount) (drop (i * fieldCount) l)) → l″ ≡ putList l′ i old → Exchanged
@@ -74,7 +74,7 @@ module _ (l c : List ℕ) (i : ℕ) (row l′ : List ℕ) (el : l′ ≡ putList
         card = b .1;
       })
     where
-      -- 18 numbers written over 18
+      -- 20 numbers written over 20
       kept :
           (y : List ℕ) → length y ≡ fieldCount →
           putList y 0 (take (i * fieldCount + fieldCount - i * fieldCount) (drop (i * fieldCount) l)) ≡ take fieldCount (drop (i * fieldCount) l)

@@ -58,7 +58,7 @@ module _ (l c : List ℕ) (place : ℕ) (row : List ℕ) (p : Passes l c place r
   unfolding reworked onPassed
   works =
       replaced-edited l c place row size-passed (p .fits .edit) ∙
-      ap (outcome l c l′ (place - 1)) (rw (rows-passed, get-card l′ c (CardGets.passed (p .card))))
+      ap (outcome l c l′ (place - 1)) (rw (rows-passed, get-card l′ (place - 1) c (CardGets.passed (p .card))))
 
   -- how it ends
   pub data Ended : Type 0 where

@@ -4,14 +4,17 @@ use mathlib.Core.Path.{_≡_, sym, ap, _∙_}
 use mathlib.Core.Bool.{true, false}
 use mathlib.Core.List.{List}
 use Prim.Native.Nat.{ℕ, suc, _≤_, _<_}
-use native.Mathlib.Nat.{le-antisymm}
+use native.Mathlib.Nat.{le-antisymm, le-of-eq}
 use native.Mathlib.Omega.{arith}
 use Rattle.layout.specs.declared.CardRow.{CardRow}
-use Rattle.layout.specs.List.{rows}
+use Rattle.layout.specs.List.{rows, rowAt}
+use Rattle.sides.specs.declared.Secondary.{Secondary}
+use Rattle.sides.proofs.SidesLaws.{lower-in-primary}
 use Rattle.layout.proofs.CardLaws.{same-columns}
 use Rattle.layout.specs.View.{viewOf, Settings}
 use Rattle.rows.specs.InRange.{Feeds}
 use Rattle.settle.proofs.SameLaws.{fed-below}
+use Rattle.settle.specs.Conditions.{primaryOf, pickupAt}
 use Rattle.settle.specs.Inequalities.{NoPickup, NoDelay, LeastRow}
 use Rattle.calculate.proofs.LeastLaws.{pickups-under-on, pickup-fits-on, delays-under-on, delay-fits-on}
 use Rattle.path.specs.Path.{OnPath, onPath}
@@ -59,13 +62,13 @@ module _ (l : List ℕ) (b : Feeds l) (i : ℕ) (h : i < rows l) (c : List ℕ) 
     same : (x : ℕ) → x < n → onPath l i x ≡ false → k x ≡ k′ x
     same x g = alike k k′ (u .off-path) (m .off-path) x (omega arith)
 
-    off-pickup : (x : ℕ) → x < n → onPath l i x ≡ false → k x .pickup ≤ k′ x .pickup
-    off-pickup x g o = let e = ap (λ (s : CardRow). s .pickup) (same x g o) in omega arith
+    off-pickup : (x : ℕ) → x < n → onPath l i x ≡ false → pickupAt (viewOf l) k x .0 ≤ pickupAt (viewOf l) k′ x .0
+    off-pickup x g o = le-of-eq (ap (λ (s : CardRow). primaryOf (rowAt l x) (s .pickup) .0) (same x g o))
 
     off-delay : (x : ℕ) → x < n → onPath l i x ≡ false → k x .delay ≤ k′ x .delay
     off-delay x g o = let e = ap (λ (s : CardRow). s .delay) (same x g o) in omega arith
 
-    pub no-higher : j ≤ n → (x : ℕ) → x < j → k x .pickup ≤ k′ x .pickup
+    pub no-higher : j ≤ n → (x : ℕ) → x < j → pickupAt (viewOf l) k x .0 ≤ pickupAt (viewOf l) k′ x .0
     no-higher le =
         pickups-under-on (viewOf l) (fed-below l b) (onPath l i) n k k′ off-pickup (λ x g o. m .available x (path o) g)
         (λ x g o. m .pickups x (path o) g) j le (λ x g o. u .least x (path o) g)
@@ -88,7 +91,7 @@ module _ (l : List ℕ) (b : Feeds l) (i : ℕ) (h : i < rows l) (c : List ℕ) 
   -- settings that meet every condition up to the last row worked out are no lower there
   pub under :
       (k k′ : Settings) (s : ℕ) → WorkedTo l i c k s → MeetsBelow l i c k′ (suc s) → (j : ℕ) → j ≤ s →
-      (k j .pickup ≤ k′ j .pickup) × (k j .delay ≤ k′ j .delay)
+      (pickupAt (viewOf l) k j .0 ≤ pickupAt (viewOf l) k′ j .0) × (k j .delay ≤ k′ j .delay)
   under k k′ s w m j le =
       let few = on-within l b i s h (on (w .on-path)) in (
         no-higher k (suc s) (worked w) k′ (suc s) few m (omega arith) j (omega arith),
@@ -99,6 +102,8 @@ module _ (l : List ℕ) (b : Feeds l) (i : ℕ) (h : i < rows l) (c : List ℕ) 
   pub same-below : (k k′ : Settings) (n : ℕ) → n ≤ rows l → LeastBelow l i c k n → LeastBelow l i c k′ n → (x : ℕ) → OnPath l i x → x < n → k x ≡ k′ x
   same-below k k′ n few u u′ x p g =
       same-columns
-      (le-antisymm (no-higher k n u k′ n few (met-least u′) (omega arith) x g) (no-higher k′ n u′ k n few (met-least u) (omega arith) x g))
+      (le-antisymm
+      (lower-in-primary (rowAt l x .ratio) (k x .pickup) (k′ x .pickup) .1 (no-higher k n u k′ n few (met-least u′) (omega arith) x g))
+      (lower-in-primary (rowAt l x .ratio) (k′ x .pickup) (k x .pickup) .1 (no-higher k′ n u′ k n few (met-least u) (omega arith) x g)))
       (le-antisymm (no-later k n u k′ n few (met-least u′) (omega arith) x g) (no-later k′ n u′ k n few (met-least u) (omega arith) x g))
-      (u .least x p g .cutoff ∙ sym (u′ .least x p g .cutoff))
+      (ap (λ (C : Secondary). C .0) (u .least x p g .cutoff ∙ sym (u′ .least x p g .cutoff)))

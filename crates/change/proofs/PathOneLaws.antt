@@ -14,12 +14,13 @@ use Rattle.answers.specs.declared.Answer.the-variants.{Unsettled}
 use Rattle.answers.specs.declared.Cause.{Cause}
 use Rattle.answers.specs.declared.Reason.the-variants.{Pickup, Delay}
 use Rattle.layout.specs.Fields.{atFeeder}
-use Rattle.layout.specs.List.{rows, field}
+use Rattle.layout.specs.List.{rows, field, rowAt}
 use Rattle.layout.specs.Range.{AllBounded}
 use Rattle.layout.specs.View.{viewOf, Settings}
 use Rattle.rows.specs.InRange.{Feeds}
 use Rattle.settle.proofs.CauseTheorems.{cause-no-pickup, cause-one}
 use Rattle.settle.proofs.SameLaws.{fed-below}
+use Rattle.settle.specs.Conditions.{primaryOf, pickupAt}
 use Rattle.settle.specs.Inequalities.{Feeding, SomePickup, NoDelay, CauseIs}
 use Rattle.calculate.proofs.MeetsLaws.{pickup-down, cause-alike}
 use Rattle.path.specs.Path.{onPath}
@@ -108,7 +109,7 @@ module _ (l : List ℕ) (b : Feeds l) (i : ℕ) (h : i < rows l) (c : List ℕ) 
     delay-later g = some-delay l b i h c k j (up-to u) k′ (suc j) (row-within u) (met-least (fewer (suc j) j′ g (up-to u′))) (u .on-path) (omega arith)
 
     -- at the same row the rows that it feeds have the same pickups, so a pickup fits both or neither
-    no-higher-there : j ≡ j′ → (x : ℕ) → x < rows l → Feeding (viewOf l) j x → k x .pickup ≤ k′ x .pickup
+    no-higher-there : j ≡ j′ → (x : ℕ) → x < rows l → Feeding (viewOf l) j x → pickupAt (viewOf l) k x .0 ≤ pickupAt (viewOf l) k′ x .0
     no-higher-there e x g f =
         no-higher l b i h c k j (up-to u) k′ j (let w = row-within u in omega arith) (met-least (fewer j j′ (omega arith) (up-to u′))) (omega arith) x
         (fed-below l b j x g (eq-eqb _ _ f))
@@ -116,7 +117,7 @@ module _ (l : List ℕ) (b : Feeds l) (i : ℕ) (h : i < rows l) (c : List ℕ) 
     pickup-there : {why : Cause} → j ≡ j′ → CauseIs (viewOf l) k j why → SomePickup (viewOf l) k′ j′ → ⊥
     pickup-there e n p =
         cause-no-pickup (viewOf l) k j n (p .0) (rw e (p .1))
-        (pickup-down (viewOf l) k k′ j (p .0) (no-higher-there e) (rw e (p .2)))
+        (pickup-down (viewOf l) k k′ j (primaryOf (rowAt l j) (p .0)) (no-higher-there e) (rw e (p .2)))
 
   -- and where none fits, the cause is the same
   same-cause :

@@ -72,9 +72,9 @@ rows-later l a = by-cases (first _ 0 _) (first _ 0 _)
     by-cases Nothing (At i) e = subst Later (same-answer e) (record { refuses = record { not-done = refl }; not-edit = refl })
     by-cases Nothing Nothing e = absurd (never-passed e)
 
-card-later : (l c : List ℕ) (a : Answer) → cardTest l c ≡ Refused a → Later a
+card-later : (l : List ℕ) (i : ℕ) (c : List ℕ) (a : Answer) → cardTest l i c ≡ Refused a → Later a
 unfolding cardTest cardAnswer
-card-later l c a = by-cases (first _ 0 _)
+card-later l i c a = by-cases (first _ 0 _)
   where
     by-cases : (f : Found) → cardAnswer f ≡ Refused a → Later a
     by-cases (At i) e = subst Later (same-answer e) (record { refuses = record { not-done = refl }; not-edit = refl })
@@ -116,4 +116,4 @@ module _ (t : Tested) (w : Worked) where
 pub reworked-later : (l : List ℕ) (i : ℕ) (c : List ℕ) (a : Answer) → reworked l i c ≡ refused a → Later a
 unfolding reworked
 reworked-later l i c =
-    passed-refused _ _ Later (rows-later l) (passed-refused _ _ Later (card-later l c) (work-later l _ c))
+    passed-refused _ _ Later (rows-later l) (passed-refused _ _ Later (card-later l i c) (work-later l _ c))

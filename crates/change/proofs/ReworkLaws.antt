@@ -2,19 +2,26 @@
 -- as before, so it stands at its own least settings. So do the rows off the path, and those past its first two: the path worked out on
 -- the card, as far as the climb goes, is then the whole calculation of the new list.
 use mathlib.Core.Path.{_≡_, refl, sym, ap, _∙_, subst}
-use mathlib.Core.Bool.{false}
+use mathlib.Core.Bool.{true, false}
+use mathlib.Core.Logic.{⊎-elim}
+use borrow.Author.Tests.{eqb-true, eqb-false}
 use mathlib.Core.List.{List}
 use Prim.Native.Nat.{ℕ, _+_, _-_, _*_, _≤_, _<_}
 use native.Mathlib.Omega.{arith}
 use lib.Dec.{eqb}
 use lib.ListN.{length, drop}
 use Rattle.rowwise.specs.WorkOut.{onPassed}
-use Rattle.fold.proofs.BoolLaws.{not-both, fails}
+use Rattle.fold.proofs.BoolLaws.{passes-or-fails, not-both, fails}
 use Rattle.answers.specs.declared.Tested.{Tested}
 use Rattle.answers.specs.declared.Tested.the-variants.{Passed, Refused}
 use Rattle.layout.specs.Card.{cardRowAt}
 use Rattle.layout.specs.Counts.{columnCount}
-use Rattle.layout.specs.List.{rows}
+use Rattle.layout.specs.List.{rows, rowAt}
+use Rattle.layout.specs.declared.Row.{Row}
+use Rattle.layout.specs.Range.{CardRowInRange}
+use Rattle.layout.proofs.RangeLaws.{widen}
+use Rattle.sides.specs.Sides.{settingMost}
+use Rattle.sides.proofs.SidesLaws.{setting-to}
 use Rattle.layout.specs.View.{viewOf}
 use Rattle.rows.specs.InRange.{Feeds}
 use Rattle.rows.specs.Tests.{rowsTest}
@@ -27,13 +34,13 @@ use Rattle.calculate.proofs.SettledLaws.{Settles}
 use Rattle.path.specs.Path.{onPath}
 use Rattle.change.specs.Edit.{putList, EditFits}
 use Rattle.change.specs.Replace.{reworked}
-use Rattle.path.specs.CardTest.{CardGets, cardTest}
+use Rattle.path.specs.CardTest.{lentMost, CardGets, cardTest}
 use Rattle.change.proofs.AcceptLaws.{Accepts, settled-fits, accepted-room, accepted-length, rows-settled}
 use Rattle.change.proofs.EditedLaws.{edited-rows, edited-is-row, edited-row, edited-feeder}
 use Rattle.path.proofs.PathLaws.{on-self, on-within}
 use Rattle.change.proofs.SkipLaws.{Rests, fed-off, calculation-path, calculation-same}
 use Rattle.change.proofs.StopLaws.{Stand, reach-whole}
-use Rattle.path.proofs.CardTestLaws.{get-card}
+use Rattle.path.proofs.CardTestLaws.{lent-replaced, lent-other, get-card}
 
 module _ (l c₀ c : List ℕ) (x : Accepts l c₀ c) (place : ℕ) (row : List ℕ) (f : EditFits l place row) where
   abbrev l′ : List ℕ
@@ -53,10 +60,25 @@ module _ (l c₀ c : List ℕ) (x : Accepts l c₀ c) (place : ℕ) (row : List 
     below : (j : ℕ) → j < rows l′ → j < rows l
     below j h = rw (edited-rows l place row f) h
 
-    card-passes : cardTest l′ c ≡ Passed
+    -- a card row in range for the old list is in range for the new one: the new row's own goes by document 01's limits
+    lent-fits :
+        (j : ℕ) → CardRowInRange (settingMost (rowAt l j .ratio .primary)) (cardRowAt c j) → CardRowInRange (lentMost l′ (place - 1) j) (cardRowAt c j)
+    lent-fits j r =
+        ⊎-elim
+        (λ (e : eqb j (place - 1) ≡ true).
+        subst (λ (m : ℕ). CardRowInRange m (cardRowAt c j)) (sym (lent-replaced l′ (place - 1) j (eqb-true j (place - 1) e)))
+        (widen (cardRowAt c j) (setting-to (rowAt l j .ratio .primary)) r))
+        (λ (e : eqb j (place - 1) ≡ false).
+        let n = eqb-false j (place - 1) e in
+        subst (λ (m : ℕ). CardRowInRange m (cardRowAt c j))
+        (ap (λ (x : Row). settingMost (x .ratio .primary)) (edited-row l place row f j n) ∙ sym (lent-other l′ (place - 1) j n)) r)
+        (passes-or-fails (eqb j (place - 1)))
+
+    card-passes : cardTest l′ (place - 1) c ≡ Passed
     card-passes =
-        get-card l′ c
-        (CardGets.passed (λ j h. settled-fits l (passed-in-range l (x .tested)) c j (below j h) (rows-settled l c₀ c x j (below j h))))
+        get-card l′ (place - 1) c
+        (CardGets.passed
+        (λ j h. lent-fits j (settled-fits l (passed-in-range l (x .tested)) c j (below j h) (rows-settled l c₀ c x j (below j h)))))
 
     -- a row off the path is not the new one
     not-new : (j : ℕ) → onPath l′ (place - 1) j ≡ false → j ≡ place - 1 → ⊥

@@ -15,6 +15,7 @@ use Rattle.layout.specs.Fields.{atFeeder}
 use Rattle.layout.specs.List.{rows, field, rowAt}
 use Rattle.layout.specs.View.{viewOf, Settings}
 use Rattle.path.specs.Path.{OnPath, Nth}
+use Rattle.settle.specs.Conditions.{pickupAt}
 use Rattle.settle.specs.Inequalities.{AvailableOn, PickupMet, DelayMet, SomePickup, NoDelay, CauseIs, LeastRow}
 
 -- off the path of row i, k has the numbers found on the card
@@ -25,7 +26,7 @@ AsFound l i c k = (j : ℕ) → j < rows l → (OnPath l i j → ⊥) → k j �
 pub record MeetsBelow (l : List ℕ) (i : ℕ) (c : List ℕ) (k : Settings) (n : ℕ) : Type 0 where
   pub off-path : AsFound l i c k
   pub available : (j : ℕ) → OnPath l i j → j < n → AvailableOn (rowAt l j) (k j .pickup)
-  pub pickups : (j : ℕ) → OnPath l i j → j < n → PickupMet (viewOf l) k j (k j .pickup)
+  pub pickups : (j : ℕ) → OnPath l i j → j < n → PickupMet (viewOf l) k j (pickupAt (viewOf l) k j)
   pub delays : (j : ℕ) → OnPath l i j → j < n → DelayMet (viewOf l) k j (k j .delay)
 
 -- the climb goes on past row j: it is the replaced row, or its new card row is not its old one

@@ -28,7 +28,7 @@ pub record Passes (l c : List ℕ) (place : ℕ) (row : List ℕ) : Type 0 where
   pub fits : Fits l c place row
   pub in-range : InRange (made l place row)
   pub feeds : Feeds (made l place row)
-  pub card : CardInRange (made l place row) c
+  pub card : CardInRange (made l place row) (place - 1) c
 
 pub data ReplacementGets (l c : List ℕ) (place : ℕ) (row : List ℕ) : Answer → Type 0 where
   COUNT : (RightSize l → ⊥) → ReplacementGets l c place row Count
@@ -40,7 +40,7 @@ pub data ReplacementGets (l c : List ℕ) (place : ℕ) (row : List ℕ) : Answe
       (i : ℕ) → Fits l c place row → InRange (made l place row) → FirstMisfed (made l place row) i →
       ReplacementGets l c place row (Tree (i + 1))
   CARD :
-      (i : ℕ) → Fits l c place row → InRange (made l place row) → Feeds (made l place row) → FirstCardOut (made l place row) c i →
+      (i : ℕ) → Fits l c place row → InRange (made l place row) → Feeds (made l place row) → FirstCardOut (made l place row) (place - 1) c i →
       ReplacementGets l c place row (Card (i + 1))
   UNSETTLED :
       {a : Answer} → Passes l c place row → PathRefused (made l place row) (place - 1) c a → ReplacementGets l c place row a

@@ -34,7 +34,7 @@ fn rework(list: &[u64], i: usize, card: &mut [u64]) -> HowFar
     if let Tested::Refused(a) = tested {
         return HowFar::Refused(a);
     }
-    let found = test_card(list, card);
+    let found = test_card(list, i, card);
     if let Tested::Refused(a) = found {
         return HowFar::Refused(a);
     }

@@ -13,11 +13,12 @@ use Rattle.fold.proofs.BoolLaws.{fails, and-left, and-right, and-both}
 use Rattle.blocks.proofs.BlockLaws.{sets-before, sets-behind, sets-stands, sets-is, block-own, block-other, drop-sets, blocks-agree}
 use Rattle.layout.specs.declared.CardRow.{CardRow}
 use Rattle.layout.specs.Counts.{columnCount}
+use Rattle.sides.specs.Sides.{keyed}
 use Rattle.layout.specs.Card.{column, cardRowAt, columnsOf, putCardRow, sameCardRow}
 
 -- a card row is its columns
-pub same-columns : {k k′ : CardRow} → k .pickup ≡ k′ .pickup → k .delay ≡ k′ .delay → k .cutoff ≡ k′ .cutoff → k ≡ k′
-same-columns p d q = λ t. record { pickup = p t; delay = d t; cutoff = q t }
+pub same-columns : {k k′ : CardRow} → k .pickup .0 ≡ k′ .pickup .0 → k .delay ≡ k′ .delay → k .cutoff .0 ≡ k′ .cutoff .0 → k ≡ k′
+same-columns p d q = λ t. record { pickup = keyed (p t); delay = d t; cutoff = keyed (q t) }
 
 -- the test of it: equal in all their numbers
 module _ (a b : CardRow) where
@@ -25,27 +26,27 @@ module _ (a b : CardRow) where
   delays = eqb (a .delay) (b .delay)
 
   abbrev cutoffs : Bool
-  cutoffs = eqb (a .cutoff) (b .cutoff)
+  cutoffs = eqb (a .cutoff .0) (b .cutoff .0)
 
   pub same-card-row-exactly : (sameCardRow a b ≡ true) ↔ (a ≡ b)
   same-card-row-exactly = (
     λ e.
-        let rest = and-right (eqb (a .pickup) (b .pickup)) (delays && cutoffs) e in
+        let rest = and-right (eqb (a .pickup .0) (b .pickup .0)) (delays && cutoffs) e in
         same-columns
-        (eqb-true (a .pickup) (b .pickup) (and-left (eqb (a .pickup) (b .pickup)) (delays && cutoffs) e))
+        (eqb-true (a .pickup .0) (b .pickup .0) (and-left (eqb (a .pickup .0) (b .pickup .0)) (delays && cutoffs) e))
         (eqb-true (a .delay) (b .delay) (and-left delays cutoffs rest))
-        (eqb-true (a .cutoff) (b .cutoff) (and-right delays cutoffs rest)),
+        (eqb-true (a .cutoff .0) (b .cutoff .0) (and-right delays cutoffs rest)),
     λ e.
-        and-both (eq-eqb (a .pickup) (b .pickup) (λ t. e t .pickup))
-        (and-both (eq-eqb (a .delay) (b .delay) (λ t. e t .delay)) (eq-eqb (a .cutoff) (b .cutoff) (λ t. e t .cutoff))),
+        and-both (eq-eqb (a .pickup .0) (b .pickup .0) (λ t. e t .pickup .0))
+        (and-both (eq-eqb (a .delay) (b .delay) (λ t. e t .delay)) (eq-eqb (a .cutoff .0) (b .cutoff .0) (λ t. e t .cutoff .0))),
   )
 
   pub other-card-row : (a ≡ b → ⊥) → false ≡ sameCardRow a b
   other-card-row n = sym (fails (sameCardRow a b) (λ e. n (same-card-row-exactly .0 e)))
 
   -- the cutoffs are left to compare
-  pub same-but-cutoff : a .pickup ≡ b .pickup → a .delay ≡ b .delay → eqb (a .cutoff) (b .cutoff) ≡ sameCardRow a b
-  same-but-cutoff p d = sym (ap₂ (λ (x y : Bool). x && (y && cutoffs)) (eq-eqb (a .pickup) (b .pickup) p) (eq-eqb (a .delay) (b .delay) d))
+  pub same-but-cutoff : a .pickup .0 ≡ b .pickup .0 → a .delay ≡ b .delay → eqb (a .cutoff .0) (b .cutoff .0) ≡ sameCardRow a b
+  same-but-cutoff p d = sym (ap₂ (λ (x y : Bool). x && (y && cutoffs)) (eq-eqb (a .pickup .0) (b .pickup .0) p) (eq-eqb (a .delay) (b .delay) d))
 
 pub column-of : (c : List ℕ) (i k : ℕ) → k < columnCount → column c i k ≡ getD (columnsOf (cardRowAt c i)) k 0
 column-of c i zero h = refl

@@ -7,6 +7,7 @@ use lib.ListN.{getD}
 use lib.Seq.{sets}
 use Rattle.layout.specs.declared.CardRow.{CardRow}
 use Rattle.layout.specs.Counts.{columnCount}
+use Rattle.sides.specs.Sides.{keyed}
 
 -- the number in column k of card row i
 abbrev pub column : List ℕ → ℕ → ℕ → ℕ
@@ -14,10 +15,10 @@ column c i k = getD c (i * columnCount + k) 0
 
 -- card row i, and its columns in their order
 abbrev pub cardRowAt : List ℕ → ℕ → CardRow
-cardRowAt c i = record { pickup = column c i 0; delay = column c i 1; cutoff = column c i 2 }
+cardRowAt c i = record { pickup = keyed (column c i 0); delay = column c i 1; cutoff = keyed (column c i 2) }
 
 abbrev pub columnsOf : CardRow → List ℕ
-columnsOf k = k .pickup ∷ k .delay ∷ k .cutoff ∷ []
+columnsOf k = k .pickup .0 ∷ k .delay ∷ k .cutoff .0 ∷ []
 
 -- the card with another row i
 unfoldable pub putCardRow : List ℕ → ℕ → CardRow → List ℕ
@@ -25,12 +26,13 @@ putCardRow c i k = sets c (i * columnCount) (columnsOf k)
 
 -- [02 §8] two card rows are equal in all their numbers
 abbrev pub sameCardRow : CardRow → CardRow → Bool
-sameCardRow a b = eqb (a .pickup) (b .pickup) && (eqb (a .delay) (b .delay) && eqb (a .cutoff) (b .cutoff))
+sameCardRow a b = eqb (a .pickup .0) (b .pickup .0) && (eqb (a .delay) (b .delay) && eqb (a .cutoff .0) (b .cutoff .0))
 
--- the least and the greatest number of each column of a lent card, in the order of the card [01 §4, 9 CARD]
-abbrev pub columnBounds : List ℕ
-columnBounds =
-    1 ∷ 100000000 ∷  -- pickup
+-- the least and the greatest number of each column of a lent card, in the order of the card [01 §4, 9 CARD]; pickup and cutoff
+-- go to `most` [02 §1]
+abbrev pub columnBoundsTo : ℕ → List ℕ
+columnBoundsTo most =
+    1 ∷ most ∷  -- pickup
     0 ∷ 100000 ∷  -- delay
-    0 ∷ 100000000 ∷  -- cutoff
+    0 ∷ most ∷  -- cutoff
     []

@@ -4,7 +4,7 @@ use Prim.Native.Nat.{ℕ, _*_}
 
 -- a row of a list has so many fields
 abbrev pub fieldCount : ℕ
-fieldCount = 18
+fieldCount = 20
 
 -- a row of a card has so many numbers, its columns
 abbrev pub columnCount : ℕ

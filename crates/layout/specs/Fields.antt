@@ -1,4 +1,4 @@
--- [01 §2] The table of fields: their names by index, counted from 0, and the numbers allowed in each. Definitions only.
+-- [01 §2], [02 §1] The table of fields: their names by index, counted from 0, and the numbers allowed in each. Definitions only.
 use mathlib.Core.Bool.{Bool, _&&_}
 use mathlib.Core.List.{List, [], _∷_}
 use Prim.Native.Nat.{ℕ, _+_, _*_}
@@ -57,9 +57,17 @@ atCeiling = 16
 abbrev pub atBacked : ℕ
 atBacked = 17
 
--- the least and the greatest number allowed in each field, in the order of section 2's table
-abbrev pub bounds : List ℕ
-bounds =
+-- the rated primary and the rated secondary of the row's current transformer
+abbrev pub atPrimary : ℕ
+atPrimary = 18
+
+abbrev pub atSecondary : ℕ
+atSecondary = 19
+
+-- the least and the greatest number allowed in each field, in the order of section 2's table, then request §1's two; low, high and step
+-- go to `most`
+abbrev pub boundsTo : ℕ → List ℕ
+boundsTo most =
     1 ∷ 256 ∷  -- row
     0 ∷ 256 ∷  -- feeds_from
     1 ∷ 3 ∷  -- kind
@@ -71,13 +79,15 @@ bounds =
     1 ∷ 100000000 ∷  -- clear
     1 ∷ 100000000 ∷  -- near
     1000 ∷ 2000 ∷  -- factor
-    1 ∷ 100000000 ∷  -- low
-    1 ∷ 100000000 ∷  -- high
-    1 ∷ 100000000 ∷  -- step
+    1 ∷ most ∷  -- low
+    1 ∷ most ∷  -- high
+    1 ∷ most ∷  -- step
     1 ∷ 3 ∷  -- device
     0 ∷ 100000 ∷  -- floor
     0 ∷ 100000 ∷  -- ceiling
     0 ∷ 1 ∷  -- backed
+    0 ∷ 20000 ∷  -- rated_primary
+    0 ∷ 5 ∷  -- rated_secondary
     []
 
 -- the least and the greatest number of entry k of such a table, and a number between them

@@ -1,4 +1,4 @@
--- [01 §2] A list lent as numbers: its rows one after the other, field by field. Rows and fields are counted from 0:
+-- [01 §2], [02 §1] A list lent as numbers: its rows one after the other, field by field. Rows and fields are counted from 0:
 -- index i is row number i + 1. Definitions only.
 use mathlib.Core.List.{List}
 use Prim.Native.Nat.{ℕ, _+_, _*_, _/_}
@@ -6,7 +6,8 @@ use lib.ListN.{length, getD}
 use Rattle.layout.specs.declared.Row.{Row}
 use Rattle.layout.specs.Counts.{fieldCount}
 use Rattle.layout.specs.Fields.{atFeeder, atKind, atVolts, atWork, atSelfstart, atReturn, atFar, atClear, atNear, atFactor, atLow, atHigh, atStep}
-use Rattle.layout.specs.Fields.{atDevice, atFloor, atCeiling, atBacked}
+use Rattle.layout.specs.Fields.{atDevice, atFloor, atCeiling, atBacked, atPrimary, atSecondary, boundsTo}
+use Rattle.sides.specs.Sides.{milliamperes, keyed, settingMost}
 
 -- how many whole rows a list has
 abbrev pub rows : List ℕ → ℕ
@@ -16,25 +17,30 @@ rows l = length l / fieldCount
 abbrev pub field : List ℕ → ℕ → ℕ → ℕ
 field l i k = getD l (i * fieldCount + k) 0
 
--- row i, its fields 2 to 18
+-- the bounds of row i's fields: those of low, high and step are by its rated primary
+abbrev pub boundsAt : List ℕ → ℕ → List ℕ
+boundsAt l i = boundsTo (settingMost (field l i atPrimary))
+
+-- row i, its fields 2 to 20: currents on the primary side, but low, high and step as they are keyed at the relay
 abbrev pub rowAt : List ℕ → ℕ → Row
 rowAt l i =
     record {
       feeder = field l i atFeeder;
       kind = field l i atKind;
       volts = field l i atVolts;
-      work = field l i atWork;
+      work = milliamperes (field l i atWork);
       selfstart = field l i atSelfstart;
       returnfactor = field l i atReturn;
-      far = field l i atFar;
-      clear = field l i atClear;
-      near = field l i atNear;
+      far = milliamperes (field l i atFar);
+      clear = milliamperes (field l i atClear);
+      near = milliamperes (field l i atNear);
       factor = field l i atFactor;
-      low = field l i atLow;
-      high = field l i atHigh;
-      step = field l i atStep;
+      low = keyed (field l i atLow);
+      high = keyed (field l i atHigh);
+      step = keyed (field l i atStep);
       device = field l i atDevice;
       floor = field l i atFloor;
       ceiling = field l i atCeiling;
       backed = field l i atBacked;
+      ratio = record { primary = field l i atPrimary; secondary = field l i atSecondary };
     }

@@ -1,16 +1,21 @@
 // The layout of a list and of a card lent as numbers: counts, tables of bounds, rows [01 §2, §4].
 // Rows, fields and columns are counted from 0 here: index i is row number i + 1, index k is field number k + 1.
 use blocks::put;
+use sides::FIFTHS;
+use sides::Primary;
+use sides::Ratio;
+use sides::Secondary;
 ghost use mathlib.Core.Path.{_≡_};
 ghost use Prim.Native.Nat.{_+_, _*_, _<_, _≤_};
 ghost use lib.ListN.{length};
-ghost use Rattle.layout.specs.Card.{column, cardRowAt, columnBounds, putCardRow, sameCardRow};
+ghost use Rattle.layout.specs.Card.{column, cardRowAt, columnBoundsTo, putCardRow, sameCardRow};
 ghost use Rattle.layout.specs.Counts.{fieldCount, columnCount};
-ghost use Rattle.layout.specs.Fields.{bounds, inBounds};
+ghost use Rattle.layout.specs.Fields.{boundsTo, inBounds};
 ghost use Rattle.layout.specs.List.{field, rowAt};
+ghost use Rattle.layout.specs.Range.{Bounded};
 
 // A row of a list has so many fields, a row of a card so many columns, and a list so many rows at most.
-pub const FIELDS: usize = 18;
+pub const FIELDS: usize = 20;
 
 pub const COLUMNS: usize = 3;
 
@@ -56,59 +61,63 @@ pub const AT_CEILING: usize = 16;
 
 pub const AT_BACKED: usize = 17;
 
-// The least and the greatest number allowed, field by field [01 §2].
-const BOUNDS: [u64; 2 * FIELDS] = [
-    1,
-    256, // row
-    0,
-    256, // feeds_from
-    1,
-    3, // kind
-    100,
-    500000, // volts
-    1,
-    100000000, // work
-    1000,
-    10000, // selfstart
-    800,
-    1000, // return
-    1,
-    100000000, // far
-    1,
-    100000000, // clear
-    1,
-    100000000, // near
-    1000,
-    2000, // factor
-    1,
-    100000000, // low
-    1,
-    100000000, // high
-    1,
-    100000000, // step
-    1,
-    3, // device
-    0,
-    100000, // floor
-    0,
-    100000, // ceiling
-    0,
-    1, // backed
-];
+pub const AT_PRIMARY: usize = 18;
 
-// The same of a lent card, column by column [01 §4, 9 CARD].
-const COLUMN_BOUNDS: [u64; 2 * COLUMNS] = [1, 100000000, 0, 100000, 0, 100000000];
+pub const AT_SECONDARY: usize = 19;
 
-pub fn field_bounds() -> [u64; 2 * FIELDS]
-    ensures { λ r. ⌜ r ≡ bounds ⌝ }
+// The least and the greatest number allowed, field by field [01 §2], [02 §1]; low, high and step go to `most`.
+pub fn field_bounds(most: u64) -> [u64; 2 * FIELDS]
+    ensures { λ r. ⌜ r ≡ boundsTo most ⌝ }
 {
-    BOUNDS
+    [
+        1,
+        256, // row
+        0,
+        256, // feeds_from
+        1,
+        3, // kind
+        100,
+        500000, // volts
+        1,
+        100000000, // work
+        1000,
+        10000, // selfstart
+        800,
+        1000, // return
+        1,
+        100000000, // far
+        1,
+        100000000, // clear
+        1,
+        100000000, // near
+        1000,
+        2000, // factor
+        1,
+        most, // low
+        1,
+        most, // high
+        1,
+        most, // step
+        1,
+        3, // device
+        0,
+        100000, // floor
+        0,
+        100000, // ceiling
+        0,
+        1, // backed
+        0,
+        20000, // rated_primary
+        0,
+        5, // rated_secondary
+    ]
 }
 
-pub fn column_bounds() -> [u64; 2 * COLUMNS]
-    ensures { λ r. ⌜ r ≡ columnBounds ⌝ }
+// The same of a lent card, column by column [01 §4, 9 CARD]; pickup and cutoff go to `most`.
+pub fn column_bounds(most: u64) -> [u64; 2 * COLUMNS]
+    ensures { λ r. ⌜ r ≡ columnBoundsTo most ⌝ }
 {
-    COLUMN_BOUNDS
+    [1, most, 0, 100000, 0, most]
 }
 
 // A number against entry k of such a table.
@@ -122,25 +131,26 @@ pub fn in_bounds(table: &[u64], k: usize, x: u64) -> bool
     x <= table[2 * k + 1]
 }
 
-// What the conditions read of a row: fields 2 to 18, in the list's order [01 §2].
+// What the conditions read of a row: fields 2 to 20, in the list's order [01 §2], [02 §1]. What the relay offers is on its own side.
 pub struct Row {
     pub feeder: u64,
     pub kind: u64,
     pub volts: u64,
-    pub work: u64,
+    pub work: Primary,
     pub selfstart: u64,
     pub returnfactor: u64,
-    pub far: u64,
-    pub clear: u64,
-    pub near: u64,
+    pub far: Primary,
+    pub clear: Primary,
+    pub near: Primary,
     pub factor: u64,
-    pub low: u64,
-    pub high: u64,
-    pub step: u64,
+    pub low: Secondary,
+    pub high: Secondary,
+    pub step: Secondary,
     pub device: u64,
     pub floor: u64,
     pub ceiling: u64,
     pub backed: u64,
+    pub ratio: Ratio,
 }
 
 pub fn field_at(list: &[u64], i: usize, k: usize) -> u64
@@ -151,7 +161,7 @@ pub fn field_at(list: &[u64], i: usize, k: usize) -> u64
 }
 
 pub fn row_at(list: &[u64], i: usize) -> Row
-    requires { ⌜ i * fieldCount + fieldCount ≤ length (now list) ⌝ }
+    requires { ⌜ (i * fieldCount + fieldCount ≤ length (now list)) × Bounded (rowAt (now list) i) ⌝ }
     ensures { λ r. ⌜ r ≡ rowAt (now (list .entry)) i ⌝ }
 {
     let at = i * FIELDS;
@@ -159,28 +169,32 @@ pub fn row_at(list: &[u64], i: usize) -> Row
         feeder: list[at + AT_FEEDER],
         kind: list[at + AT_KIND],
         volts: list[at + AT_VOLTS],
-        work: list[at + AT_WORK],
+        work: Primary(FIFTHS * list[at + AT_WORK]),
         selfstart: list[at + AT_SELFSTART],
         returnfactor: list[at + AT_RETURN],
-        far: list[at + AT_FAR],
-        clear: list[at + AT_CLEAR],
-        near: list[at + AT_NEAR],
+        far: Primary(FIFTHS * list[at + AT_FAR]),
+        clear: Primary(FIFTHS * list[at + AT_CLEAR]),
+        near: Primary(FIFTHS * list[at + AT_NEAR]),
         factor: list[at + AT_FACTOR],
-        low: list[at + AT_LOW],
-        high: list[at + AT_HIGH],
-        step: list[at + AT_STEP],
+        low: Secondary(list[at + AT_LOW]),
+        high: Secondary(list[at + AT_HIGH]),
+        step: Secondary(list[at + AT_STEP]),
         device: list[at + AT_DEVICE],
         floor: list[at + AT_FLOOR],
         ceiling: list[at + AT_CEILING],
         backed: list[at + AT_BACKED],
+        ratio: Ratio {
+            primary: list[at + AT_PRIMARY],
+            secondary: list[at + AT_SECONDARY],
+        },
     }
 }
 
-// A card row's columns, in the card's order.
+// A card row's columns, in the card's order; the currents as they are keyed.
 pub struct CardRow {
-    pub pickup: u64,
+    pub pickup: Secondary,
     pub delay: u64,
-    pub cutoff: u64,
+    pub cutoff: Secondary,
 }
 
 pub fn column_at(card: &[u64], i: usize, k: usize) -> u64
@@ -196,9 +210,9 @@ pub fn card_row_at(card: &[u64], i: usize) -> CardRow
 {
     let at = i * COLUMNS;
     CardRow {
-        pickup: card[at + 0],
+        pickup: Secondary(card[at + 0]),
         delay: card[at + 1],
-        cutoff: card[at + 2],
+        cutoff: Secondary(card[at + 2]),
     }
 }
 
@@ -206,7 +220,7 @@ pub fn put_card_row(card: &mut [u64], i: usize, k: CardRow)
     requires { ⌜ i * columnCount + columnCount ≤ length (now card) ⌝ }
     ensures { λ _. ⌜ now (card .exit) ≡ putCardRow (now (card .entry)) i k ⌝ }
 {
-    let columns = [k.pickup, k.delay, k.cutoff];
+    let columns = [k.pickup.0, k.delay, k.cutoff.0];
     put(card, i * COLUMNS, &columns);
 }
 
@@ -214,11 +228,11 @@ pub fn put_card_row(card: &mut [u64], i: usize, k: CardRow)
 pub fn same_card_row(a: CardRow, b: CardRow) -> bool
     ensures { λ r. ⌜ r ≡ sameCardRow a b ⌝ }
 {
-    if a.pickup != b.pickup {
+    if a.pickup.0 != b.pickup.0 {
         return false;
     }
     if a.delay != b.delay {
         return false;
     }
-    a.cutoff == b.cutoff
+    a.cutoff.0 == b.cutoff.0
 }

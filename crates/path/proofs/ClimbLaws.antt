@@ -69,7 +69,7 @@ module _ (l : List ℕ) (i : ℕ) (c s : List ℕ) (r : ClimbReady l i c s) wher
     pub record Comes : Type 0 where
       pub outcome : Outcome
       pub comes-to : comesTo l i c ≡ Set outcome
-      pub bounded : CardBounded (shown outcome)
+      pub bounded : CardBounded (rowAt l i) (shown outcome)
       pub card : c′ ≡ putCardRow c i (shown outcome)
       pub sums : s′ ≡ pushed l (rowAt l i) (shown outcome) s
 

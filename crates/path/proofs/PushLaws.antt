@@ -38,7 +38,7 @@ working-same l done done′ matters matters′ c s e f w =
     }
 
 module _ (l : List ℕ) (done matters : ℕ → Bool) (c s : List ℕ) (w : Working l done matters c s) (i : ℕ) (h : i < rows l)
-    (to : CardBounded (cardRowAt c i)) where
+    (to : CardBounded (rowAt l i) (cardRowAt c i)) where
   pub push-ready : (1 ≤ rowAt l i .feeder → matters (rowAt l i .feeder - 1) ≡ true) → PushReady l (rowAt l i) (cardRowAt c i) s
   push-ready f =
       record { bounded = w .in-range i h .bounded; settings = to; feeder = has-feeder l done matters c s w i h f }

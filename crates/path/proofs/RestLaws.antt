@@ -1,5 +1,5 @@
 -- The pass over the rows off a path: the rows below j that are off the path are done, and `next` is the next row of the path.
-use mathlib.Core.Path.{_≡_, refl, sym, ap, _∙_}
+use mathlib.Core.Path.{_≡_, refl, sym, ap, _∙_, subst}
 use mathlib.Core.Bool.{Bool, true, false, not, _&&_, _||_, or-false, and-true, and-false}
 use mathlib.Core.Logic.{⊎-elim}
 use mathlib.Core.List.{List}
@@ -8,7 +8,7 @@ use native.Mathlib.Omega.{arith}
 use lib.Dec.{ltb, eqb}
 use lib.ListN.{length}
 use borrow.Author.Tests.{lt-ltb, le-ltb, ltb-true, eqb-true, eqb-false, eq-eqb}
-use Rattle.fold.proofs.BoolLaws.{passes-or-fails, same-test}
+use Rattle.fold.proofs.BoolLaws.{passes-or-fails, same-test, not-both}
 use Rattle.layout.specs.Card.{cardRowAt}
 use Rattle.layout.specs.List.{rows, rowAt}
 use Rattle.rows.specs.InRange.{Feeds}
@@ -22,7 +22,7 @@ use Rattle.path.specs.Path.{aboveOf, onPath}
 use Rattle.path.specs.Ready.{FoundReady, RestReady}
 use Rattle.path.proofs.PathLaws.{onFrom, on-from, on-next, on-self, off-before, above-above}
 use Rattle.path.proofs.PushLaws.{working-same, push-ready, push-next}
-use Rattle.path.proofs.CardTestLaws.{card-passed}
+use Rattle.path.proofs.CardTestLaws.{lent-other, card-passed}
 
 -- row k is below j and off the path of row i
 abbrev pub rest : List ℕ → ℕ → ℕ → ℕ → Bool
@@ -89,8 +89,14 @@ module _ (l : List ℕ) (i : ℕ) (c s₀ : List ℕ) (a : RestReady l i c s₀)
       off : onPath l i j ≡ false
       off = v .left j (omega arith) ∙ off-before l (v .working .feeds) next j (omega (arith, v .not-passed))
 
-      found : CardBounded (cardRowAt c j)
-      found = let f = card-passed l c (a .card-tested) j h in record { pickup-to = f .pickup-to; delay-to = f .delay-to }
+      -- so it is not the replaced row
+      other : j ≡ i → ⊥
+      other e = not-both (on-self l (v .working .feeds) i (a .is-row)) (subst (λ (x : ℕ). onPath l i x ≡ false) e off)
+
+      found : CardBounded (rowAt l j) (cardRowAt c j)
+      found =
+          let f = card-passed l i c (a .card-tested) j h in
+          record { pickup-to = subst (λ (m : ℕ). cardRowAt c j .pickup .0 ≤ m) (lent-other l i j other) (f .pickup-to); delay-to = f .delay-to }
 
       pub rest-ready : FoundReady l j c s
       rest-ready =

@@ -5,7 +5,7 @@ use mathlib.Core.List.{List}
 use Prim.Native.Nat.{ℕ, _+_, _*_, _<_, _≤_}
 use lib.ListN.{length}
 use Rattle.answers.specs.declared.Tested.the-variants.{Passed}
-use Rattle.layout.specs.Card.{cardRowAt}
+use Rattle.layout.specs.Card.{cardRowAt, columnBoundsTo}
 use Rattle.layout.specs.Counts.{fieldCount, columnCount, rowsMost}
 use Rattle.layout.specs.List.{rows, rowAt}
 use Rattle.rows.specs.Tests.{rowsTest}
@@ -16,6 +16,13 @@ use Rattle.path.specs.declared.HowFar.{HowFar}
 use Rattle.path.specs.declared.HowFar.the-variants.{Rows, Refused}
 use Rattle.path.specs.Path.{onPath}
 use Rattle.path.specs.CardTest.{cardTest}
+
+-- card row j can be tested: it is a row of the list, and the tables of a row without a ratio and of one with a ratio are at hand
+pub record RowReady (l c plain keyed : List ℕ) (j : ℕ) : Type 0 where
+  pub is-row : j < rows l
+  pub in-card : j * columnCount + columnCount ≤ length c
+  pub plain-is : plain ≡ columnBoundsTo 100000000
+  pub keyed-is : keyed ≡ columnBoundsTo 500000
 
 -- every row off the path of row i is done and none on it, and the sums hold what is asked of the rows on it
 pub record ClimbReady (l : List ℕ) (i : ℕ) (c s : List ℕ) : Type 0 where
@@ -38,12 +45,12 @@ pub record ReworkReady (l : List ℕ) (i : ℕ) (c : List ℕ) : Type 0 where
 pub record PathReady (l : List ℕ) (i : ℕ) (c : List ℕ) : Type 0 where
   pub rework : ReworkReady l i c
   pub rows-tested : rowsTest l ≡ Passed
-  pub card-tested : cardTest l c ≡ Passed
+  pub card-tested : cardTest l i c ≡ Passed
 
 -- the same, with sums that are all 0
 pub record RestReady (l : List ℕ) (i : ℕ) (c s : List ℕ) : Type 0 where
   pub is-row : i < rows l
-  pub card-tested : cardTest l c ≡ Passed
+  pub card-tested : cardTest l i c ≡ Passed
   pub unworked : Unworked l c s
 
 -- how far the rows `is` went, worked out from the card c, and the card after it: refused, it is the card as it was

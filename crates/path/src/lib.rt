@@ -4,6 +4,7 @@ use answers::Answer;
 use answers::Tested;
 use fold::Found;
 use layout::AT_FEEDER;
+use layout::AT_PRIMARY;
 use layout::COLUMNS;
 use layout::CardRow;
 use layout::FIELDS;
@@ -24,14 +25,14 @@ ghost use Prim.Native.Nat.{_+_, _*_, _<_, _≤_};
 ghost use lib.ListN.{length};
 ghost use Rattle.layout.specs.Counts.{columnCount};
 ghost use Rattle.fold.specs.First.{first};
-ghost use Rattle.layout.specs.Card.{cardRowAt, columnBounds, sameCardRow};
+ghost use Rattle.layout.specs.Card.{cardRowAt, sameCardRow};
 ghost use Rattle.layout.specs.List.{rows, rowAt};
 ghost use Rattle.rowwise.specs.Sums.{pushed};
 ghost use Rattle.rowwise.specs.Working.{Working};
 ghost use Rattle.path.specs.Path.{pathOf, onPath, aboveOf};
 ghost use Rattle.path.specs.Reach.{reach, reachFrom};
-ghost use Rattle.path.specs.CardTest.{cardRight, cardTest};
-ghost use Rattle.path.specs.Ready.{FoundReady, ClimbReady, RestReady, PathReady, WorkedOut};
+ghost use Rattle.path.specs.CardTest.{withinTable, cardRight, cardTest};
+ghost use Rattle.path.specs.Ready.{RowReady, FoundReady, ClimbReady, RestReady, PathReady, WorkedOut};
 
 // How far a working out went: so many rows, or refused.
 pub enum HowFar {
@@ -40,9 +41,9 @@ pub enum HowFar {
 }
 
 // The table goes by reference, as that of the fields does.
-fn card_right(card: &[u64], table: &[u64], j: usize) -> bool
-    requires { ⌜ (j * columnCount + columnCount ≤ length (now card)) × (now table ≡ columnBounds) ⌝ }
-    ensures { λ r. ⌜ r ≡ cardRight (now (card .entry)) j ⌝ }
+fn within_table(card: &[u64], table: &[u64], j: usize) -> bool
+    requires { ⌜ (j * columnCount + columnCount ≤ length (now card)) × (length (now table) ≡ 2 * columnCount) ⌝ }
+    ensures { λ r. ⌜ r ≡ withinTable (now (table .entry)) (now (card .entry)) j ⌝ }
 {
     let mut k = 0;
     while k < COLUMNS {
@@ -54,15 +55,31 @@ fn card_right(card: &[u64], table: &[u64], j: usize) -> bool
     true
 }
 
-// The first of n card rows out of range.
-fn first_card_wrong(card: &[u64], n: usize) -> Found
-    requires { ⌜ n * columnCount ≤ length (now card) ⌝ }
-    ensures { λ r. ⌜ r ≡ first (λ j. not (cardRight (now (card .entry)) j)) 0 n ⌝ }
+// Card row j is in range, row i being the replaced one: by `keyed` where it has a ratio, by `plain` where not or replaced.
+fn card_right(list: &[u64], i: usize, card: &[u64], plain: &[u64], keyed: &[u64], j: usize) -> bool
+    requires { ⌜ RowReady (now list) (now card) (now plain) (now keyed) j ⌝ }
+    ensures { λ r. ⌜ r ≡ cardRight (now (list .entry)) i (now (card .entry)) j ⌝ }
 {
-    let table = column_bounds();
+    if j == i {
+        return within_table(card, plain, j);
+    }
+    if field_at(list, j, AT_PRIMARY) == 0 {
+        return within_table(card, plain, j);
+    }
+    within_table(card, keyed, j)
+}
+
+// The first card row out of range.
+fn first_card_wrong(list: &[u64], i: usize, card: &[u64]) -> Found
+    requires { ⌜ rows (now list) * columnCount ≤ length (now card) ⌝ }
+    ensures { λ r. ⌜ r ≡ first (λ j. not (cardRight (now (list .entry)) i (now (card .entry)) j)) 0 (rows (now (list .entry))) ⌝ }
+{
+    let n = list.len() / FIELDS;
+    let plain = column_bounds(100000000);
+    let keyed = column_bounds(500000);
     let mut j = 0;
     while j < n {
-        if !card_right(card, &table, j) {
+        if !card_right(list, i, card, &plain, &keyed, j) {
             return Found::At(j as u64);
         }
         j += 1;
@@ -70,12 +87,12 @@ fn first_card_wrong(card: &[u64], n: usize) -> Found
     Found::Nothing
 }
 
-// 9 CARD over all rows ascending.
-pub fn test_card(list: &[u64], card: &[u64]) -> Tested
+// 9 CARD over all rows ascending, row i being the replaced one.
+pub fn test_card(list: &[u64], i: usize, card: &[u64]) -> Tested
     requires { ⌜ rows (now list) * columnCount ≤ length (now card) ⌝ }
-    ensures { λ t. ⌜ t ≡ cardTest (now (list .entry)) (now (card .entry)) ⌝ }
+    ensures { λ t. ⌜ t ≡ cardTest (now (list .entry)) i (now (card .entry)) ⌝ }
 {
-    match first_card_wrong(card, list.len() / FIELDS) {
+    match first_card_wrong(list, i, card) {
         Found::At(j) => Tested::Refused(Answer::Card(j + 1)),
         Found::Nothing => Tested::Passed,
     }

@@ -1,13 +1,13 @@
 -- The tests 2 to 5 exactly: each ends as it does where the list is so, at the first row and field, and no other way.
 use mathlib.Core.Path.{_≡_, refl, sym, ap, subst}
-use mathlib.Core.Bool.{Bool, true, false}
+use mathlib.Core.Bool.{Bool, true, false, cond}
 use mathlib.Core.Logic.{_⊎_, _↔_, inl, inr, ⊎-elim}
 use mathlib.Core.List.{List}
 use Prim.Native.Nat.{ℕ, _+_, _*_, _%_, _≤_, _<_}
 use native.Mathlib.Omega.{arith}
 use lib.Dec.{leb, eqb}
 use lib.ListN.{length}
-use borrow.Author.Tests.{eqb-true, eqb-false, leb-false, not-false, not-true, ne-eqb, lt-leb}
+use borrow.Author.Tests.{eqb-true, eqb-false, leb-true, leb-false, not-false, not-true, ne-eqb, le-leb, lt-leb}
 use Rattle.answers.specs.declared.Answer.the-variants.{Field}
 use Rattle.answers.specs.declared.Tested.{Tested}
 use Rattle.answers.specs.declared.Tested.the-variants.{Refused}
@@ -17,10 +17,11 @@ use Rattle.fold.specs.First.{first}
 use Rattle.fold.proofs.BoolLaws.{passes-or-fails, fails, not-both, lt-or-le}
 use Rattle.fold.proofs.FirstLaws.{first-at, first-is, first-none, first-nothing}
 use Rattle.layout.specs.Counts.{fieldCount, columnCount, listMost, rowsMost}
-use Rattle.layout.specs.Fields.{atLow, atHigh}
+use Rattle.layout.specs.Fields.{atLow, atHigh, atPrimary, atSecondary}
 use Rattle.layout.specs.List.{rows, field}
-use Rattle.rows.specs.Tests.{fieldRight, faultAfter, rowFault, rowAtFault, feedsRight, fedWrongly, sizeTest, fieldAnswer, treeAnswer, treeTest, rowsTest}
-use Rattle.rows.specs.InRange.{RightSize, RowInRange, InRange, FieldInRange, FirstWrong, LowAboveHigh}
+use Rattle.rows.specs.Tests.{fieldRight, highRight, orderFault, faultAfter, rowFault, rowAtFault, feedsRight, fedWrongly, sizeTest, fieldAnswer}
+use Rattle.rows.specs.Tests.{treeAnswer, treeTest, rowsTest}
+use Rattle.rows.specs.InRange.{RightSize, RowInRange, InRange, FieldInRange, FirstWrong, LowAboveHigh, HighAboveMost}
 use Rattle.rows.specs.InRange.{FirstOutOfRange, SizeGets, RowsGet}
 use Rattle.rows.proofs.InRangeLaws.{field-in-range, no-fault-row, in-range-field, row-no-fault}
 use Rattle.rows.proofs.InRangeLaws.{right-feeds, feeds-right, in-range-none, in-range-passes}
@@ -100,7 +101,7 @@ size-rows l s = omega (arith, s .whole-rows, s .most)
 module _ (l : List ℕ) (few : rows l ≤ rowsMost) where
   -- the fault of a row that has one
   out-fault : (i k : ℕ) → FirstOutOfRange l i k → rowFault l i ≡ k + 1
-  unfolding rowFault faultAfter
+  unfolding rowFault faultAfter orderFault highRight
   out-fault i k f =
       ⊎-elim
       (λ (w : FirstWrong l i k).
@@ -108,54 +109,55 @@ module _ (l : List ℕ) (few : rows l ≤ rowsMost) where
       (first-is (fieldWrong l i) fieldCount 0 k (omega arith) (w .inside)
       (rw (fails (fieldRight l i k) (λ t. w .wrong (field-in-range l i k t))))
       (λ m a b. rw (right m (w .fields-before m b)))))
+      (⊎-elim
       (λ (w : LowAboveHigh l i k).
-      rw (first-none (fieldWrong l i) fieldCount 0 (λ m a b. rw (right m (w .fields-right m (omega arith)))), lt-leb _ _ (w .above))
-      (omega (arith, w .named)))
+      rw (none (w .fields-right)) (rw (lt-leb _ _ (w .above)) (omega (arith, w .named))))
+      (λ (w : HighAboveMost l i k).
+      rw (none (w .fields-right)) (rw (le-leb _ _ (w .low-at-most-high), lt-leb _ _ (w .above)) (omega (arith, w .named)))))
       (f .fault)
     where
       right : (m : ℕ) → FieldInRange l i m → fieldRight l i m ≡ true
       right m = in-range-field l i (omega (arith, f .inside)) m
 
-  -- and the field that is named for it
-  fault-named :
-      (i : ℕ) → i < rows l → (found : Found) (o : Bool) → first (fieldWrong l i) 0 fieldCount ≡ found →
-      leb (field l i atLow) (field l i atHigh) ≡ o → (faultAfter o found ≡ 0 → ⊥) → ((j : ℕ) → j < i → RowInRange l j) →
-      (k : ℕ) × FirstOutOfRange l i k
-  unfolding faultAfter
-  fault-named i h (At k) o e d n before =
-      let a = first-at (fieldWrong l i) fieldCount 0 k e in (
-        k,
-        record {
-          inside = h;
-          rows-before = before;
-          fault =
-              inl
-              (record {
-                inside = omega (arith, a .below);
-                fields-before = λ m b. field-in-range l i m (not-false _ (a .before m (omega arith) b));
-                wrong = λ r. not-both (in-range-field l i (omega arith) k r) (not-true _ (a .passes));
-              });
-        },
-      )
-  fault-named i h Nothing true e d n before = absurd (n refl)
-  fault-named i h Nothing false e d n before = (
-    atLow,
-    record {
-      inside = h;
-      rows-before = before;
-      fault =
-          inr
-          (record {
-            fields-right = λ m b. field-in-range l i m (not-false _ (first-nothing (fieldWrong l i) fieldCount 0 e m (omega arith) (omega arith)));
-            above = leb-false _ _ d;
-            named = refl;
-          });
-    },
-  )
+      none : ((m : ℕ) → m < fieldCount → FieldInRange l i m) → first (fieldWrong l i) 0 fieldCount ≡ Nothing
+      none all = first-none (fieldWrong l i) fieldCount 0 (λ m a b. rw (right m (all m (omega arith))))
 
-  fault-of : (i : ℕ) → i < rows l → (rowFault l i ≡ 0 → ⊥) → ((j : ℕ) → j < i → RowInRange l j) → (k : ℕ) × FirstOutOfRange l i k
-  unfolding rowFault
-  fault-of i h n = fault-named i h (first (fieldWrong l i) 0 fieldCount) (leb (field l i atLow) (field l i atHigh)) refl refl n
+  -- and the field that is named for it
+  module _ (i : ℕ) (h : i < rows l) (before : (j : ℕ) → j < i → RowInRange l j) where
+    abbrev Fault : Type 0
+    Fault = (k : ℕ) × FirstOutOfRange l i k
+
+    named : (k : ℕ) → FirstWrong l i k ⊎ (LowAboveHigh l i k ⊎ HighAboveMost l i k) → Fault
+    named k f = (k, record { inside = h; rows-before = before; fault = f })
+
+    order-named :
+        ((m : ℕ) → m < fieldCount → FieldInRange l i m) → (a b : Bool) → leb (field l i atLow) (field l i atHigh) ≡ a →
+        leb (field l i atHigh * field l i atPrimary) (100000000 * field l i atSecondary) ≡ b →
+        (cond a (cond b 0 (atHigh + 1)) (atLow + 1) ≡ 0 → ⊥) → Fault
+    order-named right false b d e n = named atLow (inr (inl (record { fields-right = right; above = leb-false _ _ d; named = refl })))
+    order-named right true false d e n =
+        named atHigh
+        (inr (inr (record { fields-right = right; low-at-most-high = leb-true _ _ d; above = leb-false _ _ e; named = refl })))
+    order-named right true true d e n = absurd (n refl)
+
+    fault-named : (found : Found) → first (fieldWrong l i) 0 fieldCount ≡ found → (faultAfter (orderFault l i) found ≡ 0 → ⊥) → Fault
+    unfolding faultAfter orderFault highRight
+    fault-named (At k) e n =
+        let a = first-at (fieldWrong l i) fieldCount 0 k e in
+        named k
+        (inl
+        (record {
+          inside = omega (arith, a .below);
+          fields-before = λ m b. field-in-range l i m (not-false _ (a .before m (omega arith) b));
+          wrong = λ r. not-both (in-range-field l i (omega arith) k r) (not-true _ (a .passes));
+        }))
+    fault-named Nothing e n =
+        order-named (λ m b. field-in-range l i m (not-false _ (first-nothing (fieldWrong l i) fieldCount 0 e m (omega arith) (omega arith))))
+        (leb (field l i atLow) (field l i atHigh)) (leb (field l i atHigh * field l i atPrimary) (100000000 * field l i atSecondary)) refl refl n
+
+    fault-of : (rowFault l i ≡ 0 → ⊥) → Fault
+    unfolding rowFault
+    fault-of n = fault-named (first (fieldWrong l i) 0 fieldCount) refl n
 
   pub get-rows : {t : Tested} → RowsGet l t → rowsTest l ≡ t
   unfolding rowsTest treeTest fieldAnswer treeAnswer
@@ -203,8 +205,9 @@ module _ (l : List ℕ) (few : rows l ≤ rowsMost) where
       by-field (At i) e =
           let f = first-at (rowAtFault l) (rows l) 0 i e in
           let n : (k : ℕ) × FirstOutOfRange l i k =
-          fault-of i (omega (arith, f .below)) (eqb-false (rowFault l i) 0 (not-true _ (f .passes)))
-          (λ j b. no-fault-row l j (eqb-true (rowFault l j) 0 (not-false _ (f .before j (omega arith) b)))) in
+          fault-of i (omega (arith, f .below))
+          (λ j b. no-fault-row l j (eqb-true (rowFault l j) 0 (not-false _ (f .before j (omega arith) b))))
+          (eqb-false (rowFault l i) 0 (not-true _ (f .passes))) in
           given (RowsGet.FIELD i (n .0) (n .1))
 
   pub rows-exactly : (t : Tested) → (rowsTest l ≡ t) ↔ RowsGet l t

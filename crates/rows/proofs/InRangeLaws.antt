@@ -1,9 +1,9 @@
 -- The tests of a field, a row and its feeding pass exactly what is in range and feeds as section 2 says; what the rows of such a list are.
 use mathlib.Core.Path.{_≡_, refl, ap}
-use mathlib.Core.Bool.{Bool, true, false, not, _&&_}
-use mathlib.Core.Logic.{⊎-elim}
+use mathlib.Core.Bool.{Bool, true, false, not, cond, _&&_, _||_}
+use mathlib.Core.Logic.{_⊎_, _↔_, inl, inr, ⊎-elim}
 use mathlib.Core.List.{List}
-use Prim.Native.Nat.{ℕ, _+_, _-_, _≤_, _<_}
+use Prim.Native.Nat.{ℕ, _+_, _-_, _*_, _≤_, _<_}
 use native.Mathlib.Omega.{arith}
 use lib.Dec.{leb, ltb, eqb}
 use borrow.Author.Tests.{eqb-true, eqb-false, ltb-true, leb-true, not-false, not-true, ne-eqb, eq-eqb, le-leb, lt-ltb}
@@ -15,50 +15,87 @@ use Rattle.fold.proofs.BoolLaws.{and-left, and-right, and-both, implies, implie
 use Rattle.fold.proofs.FirstLaws.{first-none, first-nothing}
 use Rattle.answers.specs.declared.Tested.{Tested}
 use Rattle.answers.specs.declared.Tested.the-variants.{Passed}
-use Rattle.layout.specs.Fields.{atLow, atHigh, bounds, inBounds}
-use Rattle.layout.specs.List.{rows, field, rowAt}
+use Rattle.layout.specs.Fields.{atLow, atHigh, atPrimary, atSecondary, inBounds}
+use Rattle.layout.specs.List.{rows, field, rowAt, boundsAt}
+use Rattle.sides.specs.Sides.{Secondarily}
 use Rattle.layout.specs.Range.{namedCount}
 use Rattle.layout.proofs.RangeLaws.{in-bounds-exactly, within-bounded, bounded-within}
-use Rattle.rows.specs.Tests.{fieldRight, rowFault, faultAfter, rowAtFault, feedsRight, fedWrongly, fieldAnswer, treeAnswer, treeTest, rowsTest}
+use Rattle.rows.specs.Tests.{ratingRight, fieldRight, highRight, orderFault, rowFault, faultAfter, rowAtFault, feedsRight, fedWrongly, fieldAnswer, treeAnswer, treeTest, rowsTest}
 use Rattle.rows.specs.InRange.{RowInRange, InRange, FieldInRange, FedRightly, Feeds}
+
+-- the test of two ratings is what it says
+pub rating-exactly : (p s : ℕ) → (ratingRight p s ≡ true) ↔ Secondarily p s
+unfolding ratingRight
+rating-exactly p s = (to, from)
+  where
+    to : cond (eqb p 0) (eqb s 0) (eqb s 1 || eqb s 5) ≡ true → Secondarily p s
+    to e =
+        record {
+          none = λ z. eqb-true s 0 (rw (eq-eqb p 0 z) at e);
+          one-or-five = λ n. either (eqb s 1) refl (rw (ne-eqb p 0 n) at e);
+        }
+      where
+        either : (a : Bool) → eqb s 1 ≡ a → (a || eqb s 5) ≡ true → (s ≡ 1) ⊎ (s ≡ 5)
+        either true o h = inl (eqb-true s 1 o)
+        either false o h = inr (eqb-true s 5 h)
+
+    from : Secondarily p s → cond (eqb p 0) (eqb s 0) (eqb s 1 || eqb s 5) ≡ true
+    from a =
+        ⊎-elim
+        (λ (e : eqb p 0 ≡ true). rw e (eq-eqb s 0 (a .none (eqb-true p 0 e))))
+        (λ (e : eqb p 0 ≡ false).
+        rw e (⊎-elim (λ o. rw (eq-eqb s 1 o)) (λ f. rw f) (a .one-or-five (eqb-false p 0 e))))
+        (passes-or-fails (eqb p 0))
 
 -- ---- fields and rows
 
 module _ (l : List ℕ) (i : ℕ) where
+  abbrev own : ℕ → Bool
+  own k = not (eqb k 0) || eqb (field l i k) (i + 1)
+
+  abbrev rated : ℕ → Bool
+  rated k = not (eqb k atSecondary) || ratingRight (field l i atPrimary) (field l i k)
+
   pub field-in-range : (k : ℕ) → fieldRight l i k ≡ true → FieldInRange l i k
   unfolding fieldRight
   field-in-range k e =
+      let rest = and-right (inBounds (boundsAt l i) k (field l i k)) (own k && rated k) e in
       record {
-        own-number =
-            λ z. eqb-true _ _ (implies (eqb k 0) _ (and-right (inBounds bounds k (field l i k)) _ e) (eq-eqb k 0 z));
-        within = λ _. in-bounds-exactly bounds k (field l i k) .0 (and-left (inBounds bounds k (field l i k)) _ e);
+        own-number = λ z. eqb-true _ _ (implies (eqb k 0) _ (and-left (own k) (rated k) rest) (eq-eqb k 0 z));
+        within = λ _. in-bounds-exactly (boundsAt l i) k (field l i k) .0 (and-left (inBounds (boundsAt l i) k (field l i k)) (own k && rated k) e);
+        rating =
+            λ z.
+            rating-exactly (field l i atPrimary) (field l i k) .0
+            (implies (eqb k atSecondary) _ (and-right (own k) (rated k) rest) (eq-eqb k atSecondary z));
       }
 
-  -- a row without fault has its fields right, and low at most high
-  no-fault-none : (f : Found) (o : Bool) → faultAfter o f ≡ 0 → f ≡ Nothing
+  -- a row without fault has its fields right, and they are in order
+  no-fault-none : (f : Found) (o : ℕ) → faultAfter o f ≡ 0 → f ≡ Nothing
   unfolding faultAfter
   no-fault-none (At k) o e = absurd (omega arith)
   no-fault-none Nothing o e = refl
 
-  no-fault-ordered : (f : Found) (o : Bool) → faultAfter o f ≡ 0 → o ≡ true
+  no-fault-order : (f : Found) (o : ℕ) → faultAfter o f ≡ 0 → o ≡ 0
   unfolding faultAfter
-  no-fault-ordered (At k) o e = absurd (omega arith)
-  no-fault-ordered Nothing true e = refl
-  no-fault-ordered Nothing false e = absurd (omega arith)
+  no-fault-order (At k) o e = absurd (omega arith)
+  no-fault-order Nothing o e = e
 
   no-fault-fields : rowFault l i ≡ 0 → (k : ℕ) → k < fieldCount → fieldRight l i k ≡ true
   unfolding rowFault
   no-fault-fields e k h =
       not-false _ (first-nothing (λ k. not (fieldRight l i k)) fieldCount 0 (no-fault-none _ _ e) k (omega arith) (omega arith))
 
-  -- fields in range and low at most high are a row in range
-  pub fields-row : ((k : ℕ) → k < fieldCount → FieldInRange l i k) → field l i atLow ≤ field l i atHigh → RowInRange l i
-  fields-row r o =
+  -- fields in range, low at most high and high at most its most are a row in range
+  pub fields-row :
+      ((k : ℕ) → k < fieldCount → FieldInRange l i k) → field l i atLow ≤ field l i atHigh →
+      field l i atHigh * field l i atPrimary ≤ 100000000 * field l i atSecondary → RowInRange l i
+  fields-row r o h =
       record {
         own-number = r 0 (omega arith) .own-number refl;
-        bounded = within-bounded l i (λ k a b. r k (omega arith) .within a);
+        bounded = within-bounded l i (λ k a b. r k (omega arith) .within a) (r atSecondary (omega arith) .rating refl);
         not-named = λ k a b. r k b .within (omega arith);
         low-at-most-high = o;
+        high-at-most = h;
       }
 
   pub row-fields : RowInRange l i → (k : ℕ) → k < fieldCount → FieldInRange l i k
@@ -66,32 +103,56 @@ module _ (l : List ℕ) (i : ℕ) where
       record {
         own-number = λ z. rw z (r .own-number);
         within = λ a. ⊎-elim (λ b. bounded-within l i (r .bounded) k a b) (λ b. r .not-named k b h) (lt-or-le k namedCount);
+        rating = λ z. rw z (r .bounded .rated .secondary-fits);
       }
+
+  -- the test of the order of a row's fields, by each way that it ends
+  abbrev Ordered : ℕ → Type 0
+  Ordered o = (o ≡ 0 → field l i atLow ≤ field l i atHigh) × (o ≡ 0 → field l i atHigh * field l i atPrimary ≤ 100000000 * field l i atSecondary)
+
+  pub order-right : Ordered (orderFault l i)
+  unfolding orderFault highRight
+  order-right = by-cases (leb (field l i atLow) (field l i atHigh)) refl (highRight (field l i atHigh) (field l i atPrimary) (field l i atSecondary)) refl
+    where
+      by-cases :
+          (a : Bool) → leb (field l i atLow) (field l i atHigh) ≡ a → (b : Bool) →
+          highRight (field l i atHigh) (field l i atPrimary) (field l i atSecondary) ≡ b → Ordered (cond a (cond b 0 (atHigh + 1)) (atLow + 1))
+      by-cases true e true f = (λ _. leb-true _ _ e, λ _. leb-true _ _ f)
+      by-cases true e false f = (λ z. absurd (omega arith), λ z. absurd (omega arith))
+      by-cases false e b f = (λ z. absurd (omega arith), λ z. absurd (omega arith))
+
+  pub right-order :
+      field l i atLow ≤ field l i atHigh → field l i atHigh * field l i atPrimary ≤ 100000000 * field l i atSecondary → orderFault l i ≡ 0
+  unfolding orderFault highRight
+  right-order o h =
+      rw (le-leb (field l i atLow) (field l i atHigh) o, le-leb (field l i atHigh * field l i atPrimary) (100000000 * field l i atSecondary) h)
 
   pub no-fault-row : rowFault l i ≡ 0 → RowInRange l i
   unfolding rowFault
-  no-fault-row e = fields-row (λ k h. field-in-range k (no-fault-fields e k h)) (leb-true _ _ (no-fault-ordered _ _ e))
+  no-fault-row e =
+      let z = no-fault-order _ _ e in
+      fields-row (λ k h. field-in-range k (no-fault-fields e k h)) (order-right .0 z) (order-right .1 z)
 
   -- the table lets a first field up to 256 pass, which is what a list of the right size has
   module _ (few : i < rowsMost) where
     pub in-range-field : (k : ℕ) → FieldInRange l i k → fieldRight l i k ≡ true
     unfolding fieldRight
     in-range-field k r =
-        and-both (in-bounds-exactly bounds k (field l i k) .1 (⊎-elim
+        and-both (in-bounds-exactly (boundsAt l i) k (field l i k) .1 (⊎-elim
         (λ (z : eqb k 0 ≡ true).
         let own = r .own-number (eqb-true k 0 z) in
         rw (eqb-true k 0 z) (let own0 : field l i 0 ≡ i + 1 = rw (eqb-true k 0 z) at own in (omega arith, omega arith)))
         (λ (n : eqb k 0 ≡ false). r .within (let m = eqb-false k 0 n in omega arith))
         (passes-or-fails (eqb k 0))))
+        (and-both
         (implied (eqb k 0) _ (λ z. eq-eqb _ _ (r .own-number (eqb-true k 0 z))))
+        (implied (eqb k atSecondary) _ (λ z. rating-exactly (field l i atPrimary) (field l i k) .1 (r .rating (eqb-true k atSecondary z)))))
 
     pub row-no-fault : RowInRange l i → rowFault l i ≡ 0
     unfolding rowFault faultAfter
     row-no-fault r =
-        rw (
-          first-none (λ k. not (fieldRight l i k)) fieldCount 0 (λ k a b. rw (in-range-field k (row-fields r k (omega arith)))),
-          le-leb _ _ (r .low-at-most-high),
-        )
+        rw (first-none (λ k. not (fieldRight l i k)) fieldCount 0 (λ k a b. rw (in-range-field k (row-fields r k (omega arith)))))
+        (right-order (r .low-at-most-high) (r .high-at-most))
 
 -- ---- feeding
 

@@ -14,9 +14,9 @@ use Rattle.answers.specs.declared.Answer.{Answer}
 use Rattle.answers.specs.declared.Answer.the-variants.{Count, Room, Field, Tree}
 use Rattle.answers.specs.declared.Tested.{Tested}
 use Rattle.answers.specs.declared.Tested.the-variants.{Passed, Refused}
-use Rattle.layout.specs.Fields.{atFeeder, atKind, atLow, atHigh}
+use Rattle.layout.specs.Fields.{atFeeder, atKind, atLow, atHigh, atPrimary, atSecondary}
 use Rattle.layout.specs.List.{rows, field}
-use Rattle.rows.specs.Tests.{fieldRight, faultAfter, rowFault, rowAtFault, feedsRight, fedWrongly, sizeTest, fieldAnswer, fieldsTest, rowsTest}
+use Rattle.rows.specs.Tests.{fieldRight, highRight, orderFault, faultAfter, rowFault, rowAtFault, feedsRight, fedWrongly, sizeTest, fieldAnswer, fieldsTest, rowsTest}
 use Rattle.rows.specs.Tests.{treeAnswer, treeTest}
 
 -- the tests that the loops search with
@@ -28,13 +28,26 @@ module _ (l : List ℕ) (i : ℕ) where
   unfolding rowFault faultAfter
   fault-found k e = rw e
 
-  pub fault-none : first (fieldWrong l i) 0 fieldCount ≡ Nothing → field l i atLow ≤ field l i atHigh → 0 ≡ rowFault l i
+  pub fault-after : (x : ℕ) → first (fieldWrong l i) 0 fieldCount ≡ Nothing → x ≡ orderFault l i → x ≡ rowFault l i
   unfolding rowFault faultAfter
-  fault-none e h = rw (e, le-leb _ _ h)
+  fault-after x e h = rw e h
 
-  pub fault-order : first (fieldWrong l i) 0 fieldCount ≡ Nothing → field l i atHigh < field l i atLow → atLow + 1 ≡ rowFault l i
-  unfolding rowFault faultAfter
-  fault-order e h = rw (e, lt-leb _ _ h)
+  -- low above high; high within its most, and above it
+  module _ (low high p s : ℕ) (a : low ≡ field l i atLow) (b : high ≡ field l i atHigh) where
+    pub order-low : high < low → atLow + 1 ≡ orderFault l i
+    unfolding orderFault
+    order-low h = rw (← a, ← b, lt-leb low high h)
+
+    module _ (r : Bool) (c : p ≡ field l i atPrimary) (d : s ≡ field l i atSecondary) (h : low ≤ high) (f : r ≡ highRight high p s) where
+      judged : orderFault l i ≡ cond r 0 (atHigh + 1)
+      unfolding orderFault
+      judged = rw (← a, ← b, le-leb low high h, ← c, ← d, ← f)
+
+      pub order-none : r ≡ true → 0 ≡ orderFault l i
+      order-none e = sym (judged ∙ rw e)
+
+      pub order-high : r ≡ false → atHigh + 1 ≡ orderFault l i
+      order-high e = sym (judged ∙ rw e)
 
 module _ (l : List ℕ) where
   pub row-wrong : (i f : ℕ) → f ≡ rowFault l i → (f ≡ 0 → ⊥) → rowAtFault l i ≡ true

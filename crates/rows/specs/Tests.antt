@@ -1,4 +1,4 @@
--- [01 §2, §4] When a list is in range and feeds as section 2 says, and which refusal it gets otherwise.
+-- [01 §2, §4], [02 §1] When a list is in range and feeds as section 2 says, and which refusal it gets otherwise.
 -- Rows and fields are counted from 0; places in answers from 1. Definitions only.
 use mathlib.Core.List.{List}
 use mathlib.Core.Bool.{Bool, not, cond, _&&_, _||_}
@@ -11,20 +11,37 @@ use Rattle.fold.specs.First.{first}
 use Rattle.answers.specs.declared.Answer.the-variants.{Count, Room, Field, Tree}
 use Rattle.answers.specs.declared.Tested.{Tested}
 use Rattle.answers.specs.declared.Tested.the-variants.{Passed, Refused}
-use Rattle.layout.specs.Fields.{atFeeder, atKind, atLow, atHigh, bounds, inBounds}
-use Rattle.layout.specs.List.{rows, field}
+use Rattle.layout.specs.Fields.{atFeeder, atKind, atLow, atHigh, atPrimary, atSecondary, inBounds}
+use Rattle.layout.specs.List.{rows, field, boundsAt}
 
--- field k of row i lies within its bounds; field 1 besides is the row's own place
+-- a rated secondary beside the rated primary p: 0 with 0, otherwise 1 or 5
+unfoldable pub ratingRight : ℕ → ℕ → Bool
+ratingRight p s = cond (eqb p 0) (eqb s 0) (eqb s 1 || eqb s 5)
+
+-- field k of row i lies within its bounds; field 1 besides is the row's own place, and field 20 fits field 19
 unfoldable pub fieldRight : List ℕ → ℕ → ℕ → Bool
-fieldRight l i k = inBounds bounds k (field l i k) && (not (eqb k 0) || eqb (field l i k) (i + 1))
+fieldRight l i k =
+    inBounds (boundsAt l i) k (field l i k) &&
+    ((not (eqb k 0) || eqb (field l i k) (i + 1)) && (not (eqb k atSecondary) || ratingRight (field l i atPrimary) (field l i k)))
 
--- the first field at fault of a row, from 1, or 0: the fields' own ranges first, then low above high, which is field 12
-unfoldable pub faultAfter : Bool → Found → ℕ
-faultAfter ordered (At k) = k + 1
-faultAfter ordered Nothing = cond ordered 0 (atLow + 1)
+-- "high" is at most 100,000,000 mA primary: high × primary ≤ 100,000,000 × secondary, which with 0 in both holds
+unfoldable pub highRight : ℕ → ℕ → ℕ → Bool
+highRight high p s = leb (high * p) (100000000 * s)
+
+-- where each field is right by itself, the field at fault, from 1, or 0: low above high is field 12, then high above its most is field 13
+unfoldable pub orderFault : List ℕ → ℕ → ℕ
+orderFault l i =
+    cond (leb (field l i atLow) (field l i atHigh))
+    (cond (highRight (field l i atHigh) (field l i atPrimary) (field l i atSecondary)) 0 (atHigh + 1))
+    (atLow + 1)
+
+-- the first field at fault of a row, from 1, or 0: the fields' own ranges first
+unfoldable pub faultAfter : ℕ → Found → ℕ
+faultAfter order (At k) = k + 1
+faultAfter order Nothing = order
 
 unfoldable pub rowFault : List ℕ → ℕ → ℕ
-rowFault l i = faultAfter (leb (field l i atLow) (field l i atHigh)) (first (λ k. not (fieldRight l i k)) 0 fieldCount)
+rowFault l i = faultAfter (orderFault l i) (first (λ k. not (fieldRight l i k)) 0 fieldCount)
 
 -- each row but the last is fed by a row with a greater number, and by no motor; the last has 0
 unfoldable pub feedsRight : List ℕ → ℕ → Bool

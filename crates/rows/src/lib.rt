@@ -7,6 +7,8 @@ use layout::AT_FEEDER;
 use layout::AT_HIGH;
 use layout::AT_KIND;
 use layout::AT_LOW;
+use layout::AT_PRIMARY;
+use layout::AT_SECONDARY;
 use layout::COLUMNS;
 use layout::FIELDS;
 use layout::LIST;
@@ -14,17 +16,31 @@ use layout::field_at;
 use layout::field_bounds;
 use layout::in_bounds;
 ghost use mathlib.Core.Path.{_≡_};
-ghost use Prim.Native.Nat.{_+_, _*_, _<_, _≤_};
+ghost use Prim.Native.Nat.{ℕ, _+_, _*_, _<_, _≤_};
 ghost use lib.ListN.{length};
 ghost use Rattle.layout.specs.Counts.{fieldCount};
-ghost use Rattle.layout.specs.Fields.{bounds};
+ghost use Rattle.layout.specs.Fields.{boundsTo};
 ghost use Rattle.fold.specs.First.{first};
-ghost use Rattle.layout.specs.List.{field, rows};
-ghost use Rattle.rows.specs.Tests.{fieldRight, rowFault, feedsRight, fedWrongly, sizeTest, treeTest, fieldsTest, rowsTest};
+ghost use Rattle.layout.specs.List.{field, rows, boundsAt};
+ghost use Rattle.rows.specs.InRange.{FieldInRange};
+ghost use Rattle.rows.specs.Tests.{ratingRight, fieldRight, highRight, orderFault, rowFault, feedsRight, fedWrongly, sizeTest, treeTest, fieldsTest, rowsTest};
+
+// A rated secondary beside the rated primary.
+fn rating_right(primary: u64, secondary: u64) -> bool
+    ensures { λ r. ⌜ r ≡ ratingRight primary secondary ⌝ }
+{
+    if primary == 0 {
+        return secondary == 0;
+    }
+    if secondary == 1 {
+        return true;
+    }
+    secondary == 5
+}
 
 // The table goes by reference: indexed as the constant, it would be made anew for each field.
 fn field_right(list: &[u64], table: &[u64], i: usize, k: usize) -> bool
-    requires { ⌜ (i * fieldCount + k < length (now list)) × (k < fieldCount) × (now table ≡ bounds) ⌝ }
+    requires { ⌜ (i * fieldCount + fieldCount ≤ length (now list)) × (k < fieldCount) × (now table ≡ boundsAt (now list) i) ⌝ }
     ensures { λ r. ⌜ r ≡ fieldRight (now (list .entry)) i k ⌝ }
 {
     let x = field_at(list, i, k);
@@ -34,12 +50,40 @@ fn field_right(list: &[u64], table: &[u64], i: usize, k: usize) -> bool
     if k == 0 {
         return x == (i as u64) + 1;
     }
+    if k == AT_SECONDARY {
+        return rating_right(field_at(list, i, AT_PRIMARY), x);
+    }
     true
 }
 
-// The first field at fault of a row, from 1; 0 where there is none.
-fn row_fault(list: &[u64], table: &[u64], i: usize) -> u64
-    requires { ⌜ (i * fieldCount + fieldCount ≤ length (now list)) × (now table ≡ bounds) ⌝ }
+// High is at most 100,000,000 mA primary; multiplied out, and true with 0 in both ratings.
+fn high_right(high: u64, primary: u64, secondary: u64) -> bool
+    requires { ⌜ (high ≤ 100000000) × (primary ≤ 20000) × (secondary ≤ 5) ⌝ }
+    ensures { λ r. ⌜ r ≡ highRight high primary secondary ⌝ }
+{
+    high * primary <= 100000000 * secondary
+}
+
+// The field at fault of a row whose fields are each right by themselves, from 1; 0 where there is none.
+fn order_fault(list: &[u64], i: usize) -> u64
+    requires { ⌜ (i * fieldCount + fieldCount ≤ length (now list)) × ((k : ℕ) → k < fieldCount → FieldInRange (now list) i k) ⌝ }
+    ensures { λ r. ⌜ r ≡ orderFault (now (list .entry)) i ⌝ }
+{
+    let high = field_at(list, i, AT_HIGH);
+    if high < field_at(list, i, AT_LOW) {
+        return (AT_LOW as u64) + 1;
+    }
+    let primary = field_at(list, i, AT_PRIMARY);
+    if high_right(high, primary, field_at(list, i, AT_SECONDARY)) {
+        0
+    } else {
+        (AT_HIGH as u64) + 1
+    }
+}
+
+// The first field at fault of a row, by its own table, from 1; 0 where there is none.
+fn fault_by(list: &[u64], table: &[u64], i: usize) -> u64
+    requires { ⌜ (i * fieldCount + fieldCount ≤ length (now list)) × (now table ≡ boundsAt (now list) i) ⌝ }
     ensures { λ r. ⌜ r ≡ rowFault (now (list .entry)) i ⌝ }
 {
     let mut k = 0;
@@ -49,9 +93,18 @@ fn row_fault(list: &[u64], table: &[u64], i: usize) -> u64
         }
         k += 1;
     }
-    let low = field_at(list, i, AT_LOW);
-    let high = field_at(list, i, AT_HIGH);
-    if low <= high { 0 } else { (AT_LOW as u64) + 1 }
+    order_fault(list, i)
+}
+
+// The same, the row's table being `plain` without a ratio and `keyed` with one.
+fn row_fault(list: &[u64], plain: &[u64], keyed: &[u64], i: usize) -> u64
+    requires { ⌜ (i * fieldCount + fieldCount ≤ length (now list)) × (now plain ≡ boundsTo 100000000) × (now keyed ≡ boundsTo 500000) ⌝ }
+    ensures { λ r. ⌜ r ≡ rowFault (now (list .entry)) i ⌝ }
+{
+    if field_at(list, i, AT_PRIMARY) == 0 {
+        return fault_by(list, plain, i);
+    }
+    fault_by(list, keyed, i)
 }
 
 // 4 FIELD over all rows ascending.
@@ -59,10 +112,11 @@ fn test_fields(list: &[u64]) -> Tested
     ensures { λ r. ⌜ r ≡ fieldsTest (now (list .entry)) ⌝ }
 {
     let n = list.len() / FIELDS;
-    let table = field_bounds();
+    let plain = field_bounds(100000000);
+    let keyed = field_bounds(500000);
     let mut i = 0;
     while i < n {
-        let fault = row_fault(list, &table, i);
+        let fault = row_fault(list, &plain, &keyed, i);
         if fault != 0 {
             return Tested::Refused(Answer::Field((i as u64) + 1, fault));
         }

@@ -5,7 +5,7 @@ use mathlib.Core.Bool.{Bool, true, false, cond, _&&_, _||_}
 use mathlib.Core.Logic.{⊎-elim}
 use mathlib.Core.List.{List}
 use Prim.Native.Nat.{ℕ, _+_, _-_, _*_, _≤_, _<_, max}
-use native.Mathlib.Nat.{le-trans, mul-le-mul-right, add-zero, max-zero}
+use native.Mathlib.Nat.{le-trans, mul-le-mul, mul-le-mul-right, add-zero, max-zero}
 use native.Mathlib.Omega.{arith}
 use lib.Dec.{eqb}
 use borrow.Author.Tests.{ne-eqb, eqb-true, eqb-false}
@@ -21,13 +21,13 @@ use Rattle.rows.proofs.InRangeLaws.{feeder-above, feeder-of-last}
 use Rattle.settle.specs.declared.Fed.{Fed}
 use Rattle.settle.specs.declared.Outcome.{Outcome}
 use Rattle.settle.specs.declared.Settled.the-variants.{Set}
-use Rattle.settle.specs.Conditions.{fed, loadOf}
+use Rattle.settle.specs.Conditions.{primaryOf, fed, loadOf}
 use Rattle.settle.specs.Fed.{reach, excess, shortfall, earliest, asked, settledBy, FedBounded, CardBounded}
 use Rattle.settle.specs.Settle.{shown, settled}
 use Rattle.settle.proofs.FedLaws.{settled-by}
 use Rattle.settle.proofs.MarginLaws.{marginBetween-to}
 use Rattle.settle.proofs.OutcomeLaws.{set-bounded}
-use Rattle.settle.proofs.PickupLaws.{current-volts, load-bounded}
+use Rattle.settle.proofs.PickupLaws.{load-bounded, found-fits}
 use Rattle.rowwise.specs.Ready.{HasFeeder, WorkReady}
 use Rattle.rowwise.specs.Sums.{fedAt, putFed, joined, pushed, settledAt}
 use Rattle.rowwise.specs.Working.{Working, gatheredBy}
@@ -46,13 +46,15 @@ counted-all false true x h = absurd (not-both (h refl) refl)
 counted-all false false x h = refl
 
 shortfall-to : (r : Row) → shortfall r ≤ reach
-shortfall-to r = counted-to (eqb (r .backed) 1) (reach - r .far * r .volts) reach (λ _. omega arith)
+shortfall-to r = counted-to (eqb (r .backed) 1) (reach - r .far .0 * r .volts) reach (λ _. omega arith)
 
 module _ (l : List ℕ) (done matters : ℕ → Bool) (c s : List ℕ) (w : Working l done matters c s) where
-  excess-to : (j : ℕ) → j < rows l → done j ≡ true → excess (rowAt l j) (cardRowAt c j) ≤ 110000000000000
+  excess-to : (j : ℕ) → j < rows l → done j ≡ true → excess (rowAt l j) (cardRowAt c j) ≤ 25300000000000000
   excess-to j b g =
       let q = w .in-range j b .bounded in
-      omega (arith, current-volts (w .settings-to j b g .pickup-to) (q .volts-to))
+      let pickup : primaryOf (rowAt l j) (cardRowAt c j .pickup) .0 * rowAt l j .volts ≤ 25000000000000000 =
+      mul-le-mul (found-fits (rowAt l j) q (cardRowAt c j .pickup) (w .settings-to j b g .pickup-to)) (q .volts-to) in
+      omega arith
 
   earliest-to : (d j : ℕ) → j < rows l → done j ≡ true → earliest d (rowAt l j) (cardRowAt c j) ≤ 100500
   earliest-to d j b g = omega (arith, w .settings-to j b g .delay-to, marginBetween-to d (rowAt l j .device))
@@ -62,11 +64,11 @@ module _ (l : List ℕ) (done matters : ℕ → Bool) (c s : List ℕ) (w : Work
       record {
         load-to =
             le-trans
-            (sumTo-bound _ 50000000000000 (rows l)
+            (sumTo-bound _ 250000000000000 (rows l)
             (λ j b. counted-to (done j && fed (viewOf l) k j) (loadOf (viewOf l) j) _ (λ _. load-bounded (w .in-range j b .bounded))))
-            (mul-le-mul-right 50000000000000 (w .rows-to));
+            (mul-le-mul-right 250000000000000 (w .rows-to));
         excess-to =
-            maxTo-bound _ 110000000000000 (rows l)
+            maxTo-bound _ 25300000000000000 (rows l)
             (λ j b. counted-to (done j && fed (viewOf l) k j) _ _ (λ t. excess-to j b (and-left (done j) (fed (viewOf l) k j) t)));
         shortfall-to =
             maxTo-bound _ reach (rows l) (λ j b. counted-to (done j && fed (viewOf l) k j) _ _ (λ _. shortfall-to (rowAt l j)));
@@ -121,12 +123,12 @@ module _ (l : List ℕ) (done matters : ℕ → Bool) (c s : List ℕ) (w : Work
       (maxTo-same _ _ (rows l) (λ j b. counted-all (done j) (fed (viewOf l) i j) (earliest (rowAt l i .device) (rowAt l j) (cardRowAt c j)) (all j b)))) ∙
       settled-by (viewOf l) (λ j b. w .in-range j b .bounded) (cardRowAt c) i h
 
-  pub settled-to : (i : ℕ) → i < rows l → (o : Outcome) → Set o ≡ settledAt l i s → CardBounded (shown o)
+  pub settled-to : (i : ℕ) → i < rows l → (o : Outcome) → Set o ≡ settledAt l i s → CardBounded (rowAt l i) (shown o)
   settled-to i h o set = set-bounded _ _ _ _ o (w .in-range i h .bounded) set
 
   -- row i is written into the card as k, and done from then on; what mattered no longer may
   module _ (i : ℕ) (h : i < rows l) (new : done i ≡ false) (done′ : ℕ → Bool) (next : (j : ℕ) → done′ j ≡ (done j || eqb j i))
-      (matters′ : ℕ → Bool) (weaker : (j : ℕ) → matters′ j ≡ true → matters j ≡ true) (k : CardRow) (to : CardBounded k) where
+      (matters′ : ℕ → Bool) (weaker : (j : ℕ) → matters′ j ≡ true → matters j ≡ true) (k : CardRow) (to : CardBounded (rowAt l i) k) where
     r : Row
     r = rowAt l i
 
@@ -228,10 +230,10 @@ module _ (l : List ℕ) (done matters : ℕ → Bool) (c s : List ℕ) (w : Work
           settings-to =
               λ j b g.
               ⊎-elim
-              (λ e. rw (eqb-true j i e) (subst CardBounded (sym own) to))
+              (λ e. rw (eqb-true j i e) (subst (CardBounded (rowAt l i)) (sym own) to))
               (λ e.
               let n = eqb-false j i e in
-              subst CardBounded (sym (other j n)) (w .settings-to j b (was-done j n g)))
+              subst (CardBounded (rowAt l j)) (sym (other j n)) (w .settings-to j b (was-done j n g)))
               (passes-or-fails (eqb j i));
           summed = λ x b m. summed-next x b (weaker x m);
         }

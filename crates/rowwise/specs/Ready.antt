@@ -17,12 +17,12 @@ use Rattle.rowwise.specs.Sums.{askCount, fedAt, Step}
 pub record HasFeeder (l : List ℕ) (r : Row) (s : List ℕ) : Type 0 where
   pub in-list : 1 ≤ r .feeder → (r .feeder - 1) * fieldCount + fieldCount ≤ length l
   pub has-place : 1 ≤ r .feeder → (r .feeder - 1) * askCount + askCount ≤ length s
-  pub load-fits : 1 ≤ r .feeder → fedAt s (r .feeder - 1) .load ≤ 12800000000000000
+  pub load-fits : 1 ≤ r .feeder → fedAt s (r .feeder - 1) .load ≤ 64000000000000000
 
 -- what a row with these settings asks can be added for its feeder
 pub record PushReady (l : List ℕ) (r : Row) (k : CardRow) (s : List ℕ) : Type 0 where
   pub bounded : Bounded r
-  pub settings : CardBounded k
+  pub settings : CardBounded r k
   pub feeder : HasFeeder l r s
 
 -- row i can be worked out

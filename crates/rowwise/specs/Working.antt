@@ -9,7 +9,7 @@ use Rattle.fold.specs.Fold.{sumTo, maxTo}
 use Rattle.answers.specs.declared.Tested.the-variants.{Passed}
 use Rattle.layout.specs.Card.{cardRowAt}
 use Rattle.layout.specs.Counts.{columnCount, rowsMost}
-use Rattle.layout.specs.List.{rows}
+use Rattle.layout.specs.List.{rows, rowAt}
 use Rattle.layout.specs.View.{View, viewOf, Settings}
 use Rattle.rows.specs.InRange.{InRange, Feeds}
 use Rattle.rows.specs.Tests.{rowsTest}
@@ -39,7 +39,7 @@ pub record Working (l : List ℕ) (done matters : ℕ → Bool) (c s : List ℕ)
   pub feeds : Feeds l
   pub card-room : rows l * columnCount ≤ length c
   pub sums-room : rows l * askCount ≤ length s
-  pub settings-to : (j : ℕ) → j < rows l → done j ≡ true → CardBounded (cardRowAt c j)
+  pub settings-to : (j : ℕ) → j < rows l → done j ≡ true → CardBounded (rowAt l j) (cardRowAt c j)
   pub summed : (i : ℕ) → i < rows l → matters i ≡ true → fedAt s i ≡ gatheredBy done (viewOf l) (cardRowAt c) i
 
 -- a tested list, with room on the card and in the sums, before any row is worked out

@@ -4,6 +4,7 @@ use mathlib.Core.Bool.{true}
 use Rattle.fold.specs.First.{first}
 use Rattle.fold.specs.Fold.{sumTo, every}
 use Rattle.grid.specs.Grid.{count, valueAt, leastOn}
+use Rattle.sides.specs.Sides.{scale}
 use Rattle.settle.specs.Cases.{network, below, conditions, same, settlings, all}
 use Rattle.settle.specs.Conditions.{returnsAfterSelfStart, clearOf, seesOwnZone, backsUp, withinDelays}
 use Rattle.settle.specs.Conditions.{margin, marginBetween, gradedAbove, staysClear, seesNear}
@@ -11,12 +12,12 @@ use Rattle.settle.specs.Settle.{meetsLower, unbacked, firstUnbacked, can
 use Rattle.settle.specs.Settle.{meetsDelay, fitting, cutoffOf, printed, shown, outcomeOf, settled}
 
 pub condition-cases : all conditions ≡ true
-unfolding all conditions network below sumTo every returnsAfterSelfStart clearOf seesOwnZone backsUp withinDelays margin marginBetween
+unfolding all conditions network below scale sumTo every returnsAfterSelfStart clearOf seesOwnZone backsUp withinDelays margin marginBetween
     gradedAbove staysClear seesNear
 condition-cases = refl
 
 pub settling-cases : all settlings ≡ true
-unfolding all same settlings network below first sumTo every count valueAt leastOn returnsAfterSelfStart clearOf seesOwnZone backsUp withinDelays margin
+unfolding all same settlings network below scale first sumTo every count valueAt leastOn returnsAfterSelfStart clearOf seesOwnZone backsUp withinDelays margin
     marginBetween gradedAbove staysClear seesNear meetsLower unbacked firstUnbacked candidate byBackup judged picked meetsDelay fitting cutoffOf
     printed shown outcomeOf settled
 settling-cases = refl

@@ -18,20 +18,23 @@ use Rattle.answers.specs.declared.Cause.the-variants.{Range}
 use Rattle.fold.specs.declared.Found.{Found}
 use Rattle.fold.specs.declared.Found.the-variants.{At, Nothing}
 use Rattle.fold.proofs.BoolLaws.{passes-or-fails, fails, not-both, zero-not-one, lt-or-le}
-use Rattle.grid.proofs.GridLaws.{leastOn-least, leastOn-nothing, leastOn-is, leastOn-none}
 use Rattle.layout.specs.View.{View, Settings}
 use Rattle.settle.specs.declared.Picked.{Picked}
 use Rattle.settle.specs.declared.Picked.the-variants.{Fits, Unfit}
-use Rattle.settle.specs.Conditions.{seesOwnZone}
+use Rattle.sides.specs.declared.Primary.{Primary}
+use Rattle.sides.specs.declared.Secondary.{Secondary}
+use Rattle.sides.specs.Sides.{keyed}
+use Rattle.settle.specs.Conditions.{primaryOf, seesOwnZone}
 use Rattle.settle.specs.Inequalities.{AvailableOn, LowerMet, SeesOwnZone, BacksUp, PickupMet, SomePickup, NoPickup}
 use Rattle.settle.specs.Inequalities.{Candidate, NoCandidate, CauseIs}
 use Rattle.settle.specs.Inequalities.CauseIs.{RANGE, OWN-ZONE, BACKUP}
 use Rattle.settle.specs.Settle.{meetsLower, firstUnbacked, candidate, byBackup, judged, picked, pickupOf}
 use Rattle.settle.proofs.ConditionTheorems.{P3-exactly}
+use Rattle.settle.proofs.LeastPickupLaws.{least-exactly, none-exactly}
 use Rattle.settle.proofs.MeetsTheorems.{lower-exactly, unbacked-exactly, backed-all-exactly}
 
 -- a lower pickup sees what a higher one sees
-module _ (v : View) (i : ℕ) {I x : ℕ} (le : I ≤ x) where
+module _ (v : View) (i : ℕ) {I x : Primary} (le : I .0 ≤ x .0) where
   zone-down : SeesOwnZone v i x → SeesOwnZone v i I
   zone-down z = omega arith
 
@@ -41,14 +44,14 @@ module _ (v : View) (i : ℕ) {I x : ℕ} (le : I ≤ x) where
 module _ (v : View) (k : Settings) (i : ℕ) where
   -- the cause is the true one: no other available pickup that meets P1 and P2 would do
   pub own-zone-true :
-      (I : ℕ) → Candidate v k i I → (SeesOwnZone v i I → ⊥) →
-      (x : ℕ) → AvailableOn (v .row i) x → LowerMet v k i x → SeesOwnZone v i x → ⊥
-  own-zone-true I m n x a h z = n (zone-down v i (m .least x a h) z)
+      (x : Secondary) → Candidate v k i x → (SeesOwnZone v i (primaryOf (v .row i) x) → ⊥) →
+      (y : Secondary) → AvailableOn (v .row i) y → LowerMet v k i (primaryOf (v .row i) y) → SeesOwnZone v i (primaryOf (v .row i) y) → ⊥
+  own-zone-true x m n y a h z = n (zone-down v i {x = primaryOf (v .row i) y} (m .least y a h) z)
 
   pub backup-true :
-      (I j : ℕ) → Candidate v k i I → (BacksUp v i j I → ⊥) →
-      (x : ℕ) → AvailableOn (v .row i) x → LowerMet v k i x → BacksUp v i j x → ⊥
-  backup-true I j m n x a h b = n (backup-down v i (m .least x a h) j b)
+      (x : Secondary) (j : ℕ) → Candidate v k i x → (BacksUp v i j (primaryOf (v .row i) x) → ⊥) →
+      (y : Secondary) → AvailableOn (v .row i) y → LowerMet v k i (primaryOf (v .row i) y) → BacksUp v i j (primaryOf (v .row i) y) → ⊥
+  backup-true x j m n y a h b = n (backup-down v i (m .least y a h) j b)
 
   pub range-means : {why : Cause} → why ≡ Range → CauseIs v k i why → NoCandidate v k i
   range-means e (RANGE n) = n
@@ -64,83 +67,93 @@ module _ (v : View) (k : Settings) (i : ℕ) where
 
   -- the least pickup that meets P1 to P4 is the least that meets P1 and P2
   pub least-candidate :
-      (I : ℕ) → AvailableOn (v .row i) I → PickupMet v k i I → ((x : ℕ) → AvailableOn (v .row i) x → PickupMet v k i x → I ≤ x) →
-      Candidate v k i I
-  least-candidate I a h least =
+      (x : Secondary) → AvailableOn (v .row i) x → PickupMet v k i (primaryOf (v .row i) x) →
+      ((y : Secondary) → AvailableOn (v .row i) y → PickupMet v k i (primaryOf (v .row i) y) → primaryOf (v .row i) x .0 ≤ primaryOf (v .row i) y .0) →
+      Candidate v k i x
+  least-candidate x a h least =
       record {
         available = a;
         lower-met = h .P1-P2;
         least =
-            λ x b l.
+            λ y b l.
+            let I = primaryOf (v .row i) x in
+            let J = primaryOf (v .row i) y in
             ⊎-elim
-            (λ (g : x < I).
-            least x b
+            (λ (g : J .0 < I .0).
+            least y b
             (record {
               P1-P2 = l;
               P3 = zone-down v i (omega arith) (h .P3);
               P4 = λ j r f. backup-down v i (omega arith) j (h .P4 j r f);
             }))
-            (λ (g : I ≤ x). g)
-            (lt-or-le x I);
+            (λ (g : I .0 ≤ J .0). g)
+            (lt-or-le (J .0) (I .0));
       }
 
-module _ (v : View) (k : Settings) (i : ℕ) (p : 0 < v .row i .step) where
-  pub candidate-exactly : (I : ℕ) → (candidate v k i ≡ At I) ↔ Candidate v k i I
+module _ (v : View) (k : Settings) (i : ℕ) (p : 0 < v .row i .step .0) where
+  pub candidate-exactly : (x : ℕ) → (candidate v k i ≡ At x) ↔ Candidate v k i (keyed x)
   unfolding candidate
-  candidate-exactly I = (
+  candidate-exactly x = (
     λ e.
-        let m = leastOn-least _ _ _ p (meetsLower v k i) I e in
+        let m = least-exactly (v .row i) p (meetsLower v k i) x .0 e in
         record {
           available = m .available;
-          lower-met = lower-exactly v k i I .0 (m .passes);
-          least = λ x a h. m .least x a (lower-exactly v k i x .1 h);
+          lower-met = lower-exactly v k i _ .0 (m .passes);
+          least = λ y a h. m .least y a (lower-exactly v k i (primaryOf (v .row i) y) .1 h);
         },
     λ m.
-        leastOn-is _ _ _ p (meetsLower v k i) I
+        least-exactly (v .row i) p (meetsLower v k i) x .1
         (record {
           available = m .available;
-          passes = lower-exactly v k i I .1 (m .lower-met);
-          least = λ x a t. m .least x a (lower-exactly v k i x .0 t);
+          passes = lower-exactly v k i _ .1 (m .lower-met);
+          least = λ y a t. m .least y a (lower-exactly v k i _ .0 t);
         }),
   )
 
   pub no-candidate-exactly : (candidate v k i ≡ Nothing) ↔ NoCandidate v k i
   unfolding candidate
   no-candidate-exactly = (
-    λ e I a h. not-both (lower-exactly v k i I .1 h) (leastOn-nothing _ _ _ p (meetsLower v k i) e I a),
-    λ n. leastOn-none _ _ _ p (meetsLower v k i) (λ I a. fails (meetsLower v k i I) (λ t. n I a (lower-exactly v k i I .0 t))),
+    λ e x a h. not-both (lower-exactly v k i _ .1 h) (none-exactly (v .row i) p (meetsLower v k i) .0 e x a),
+    λ n.
+        none-exactly (v .row i) p (meetsLower v k i) .1
+        (λ x a. fails (meetsLower v k i (primaryOf (v .row i) x)) (λ t. n x a (lower-exactly v k i _ .0 t))),
   )
 
   -- what it comes to: the least pickup meeting P1 and P2 also meets P3 and P4, or the cause is so
   abbrev Comes : Picked → Type 0
-  Comes (Fits I) = Candidate v k i I × PickupMet v k i I
+  Comes (Fits x) = Candidate v k i x × PickupMet v k i (primaryOf (v .row i) x)
   Comes (Unfit why) = CauseIs v k i why
 
   comes : Comes (pickupOf v k i)
   unfolding picked judged byBackup
   comes = by-least (candidate v k i) refl
     where
-      by-fed : (I : ℕ) → Candidate v k i I → SeesOwnZone v i I → (f : Found) → firstUnbacked v i (v .row i) I ≡ f → Comes (byBackup I f)
-      by-fed I m z Nothing e = (m, record { P1-P2 = m .lower-met; P3 = z; P4 = backed-all-exactly v i I .0 e })
-      by-fed I m z (At j) e = BACKUP I j m z (unbacked-exactly v i I j .0 e)
+      by-fed :
+          (x : Secondary) → Candidate v k i x → SeesOwnZone v i (primaryOf (v .row i) x) → (f : Found) →
+          firstUnbacked v i (v .row i) (primaryOf (v .row i) x) ≡ f → Comes (byBackup x f)
+      by-fed x m z Nothing e = (m, record { P1-P2 = m .lower-met; P3 = z; P4 = backed-all-exactly v i _ .0 e })
+      by-fed x m z (At j) e = BACKUP x j m z (unbacked-exactly v i _ j .0 e)
 
       by-least : (f : Found) → candidate v k i ≡ f → Comes (picked (v .row i) f (firstUnbacked v i (v .row i)))
       by-least Nothing e = RANGE (no-candidate-exactly .0 e)
-      by-least (At I) e =
+      by-least (At x) e =
+          let I = primaryOf (v .row i) (keyed x) in
           ⊎-elim
           (λ (z : seesOwnZone (v .row i) I ≡ true).
-          rw z (by-fed I (candidate-exactly I .0 e) (P3-exactly (v .row i) I .0 z) (firstUnbacked v i (v .row i) I) refl))
+          rw z (by-fed (keyed x) (candidate-exactly x .0 e) (P3-exactly (v .row i) I .0 z) (firstUnbacked v i (v .row i) I) refl))
           (λ (z : seesOwnZone (v .row i) I ≡ false).
-          rw z (OWN-ZONE I (candidate-exactly I .0 e) (λ s. not-both (P3-exactly (v .row i) I .1 s) z)))
+          rw z (OWN-ZONE (keyed x) (candidate-exactly x .0 e) (λ s. not-both (P3-exactly (v .row i) I .1 s) z)))
           (passes-or-fails (seesOwnZone (v .row i) I))
 
   of-cause : {why : Cause} → CauseIs v k i why → pickupOf v k i ≡ Unfit why
   unfolding picked judged byBackup
   of-cause (RANGE n) = rw (no-candidate-exactly .1 n)
-  of-cause (OWN-ZONE I m n) =
-      rw (candidate-exactly I .1 m, fails (seesOwnZone (v .row i) I) (λ t. n (P3-exactly (v .row i) I .0 t)))
-  of-cause (BACKUP I j m z u) =
-      rw (candidate-exactly I .1 m, P3-exactly (v .row i) I .1 z, unbacked-exactly v i I j .1 u)
+  of-cause (OWN-ZONE x m n) =
+      let I = primaryOf (v .row i) x in
+      rw (candidate-exactly (x .0) .1 m, fails (seesOwnZone (v .row i) I) (λ t. n (P3-exactly (v .row i) I .0 t)))
+  of-cause (BACKUP x j m z u) =
+      let I = primaryOf (v .row i) x in
+      rw (candidate-exactly (x .0) .1 m, P3-exactly (v .row i) I .1 z, unbacked-exactly v i I j .1 u)
 
   pub cause-exactly : (why : Cause) → (pickupOf v k i ≡ Unfit why) ↔ CauseIs v k i why
   cause-exactly why = (λ e. subst Comes e comes, of-cause)
@@ -152,18 +165,20 @@ module _ (v : View) (k : Settings) (i : ℕ) (p : 0 < v .row i .step) where
       same : {why why′ : Cause} → Unfit why ≡ Unfit why′ → why ≡ why′
       same e = cc
 
-  pub fits-exactly : (I : ℕ) → (pickupOf v k i ≡ Fits I) ↔ (Candidate v k i I × PickupMet v k i I)
+  pub fits-exactly : (x : Secondary) → (pickupOf v k i ≡ Fits x) ↔ (Candidate v k i x × PickupMet v k i (primaryOf (v .row i) x))
   unfolding picked judged byBackup
-  fits-exactly I = (λ e. subst Comes e comes, of-fits)
+  fits-exactly x = (λ e. subst Comes e comes, of-fits)
     where
-      of-fits : Candidate v k i I × PickupMet v k i I → pickupOf v k i ≡ Fits I
-      of-fits m = rw (candidate-exactly I .1 (m .0), P3-exactly (v .row i) I .1 (m .1 .P3), backed-all-exactly v i I .1 (m .1 .P4))
+      of-fits : Candidate v k i x × PickupMet v k i (primaryOf (v .row i) x) → pickupOf v k i ≡ Fits x
+      of-fits m =
+          let I = primaryOf (v .row i) x in
+          rw (candidate-exactly (x .0) .1 (m .0), P3-exactly (v .row i) I .1 (m .1 .P3), backed-all-exactly v i I .1 (m .1 .P4))
 
   -- where some pickup meets P1 to P4, one fits
-  pub fits-some : SomePickup v k i → (I : ℕ) × (pickupOf v k i ≡ Fits I)
+  pub fits-some : SomePickup v k i → (x : Secondary) × (pickupOf v k i ≡ Fits x)
   fits-some s = by-cases (pickupOf v k i) refl
     where
-      by-cases : (x : Picked) → pickupOf v k i ≡ x → (I : ℕ) × (pickupOf v k i ≡ Fits I)
+      by-cases : (x : Picked) → pickupOf v k i ≡ x → (x : Secondary) × (pickupOf v k i ≡ Fits x)
       by-cases (Fits I) e = (I, e)
       by-cases (Unfit why) e = absurd (cause-no-pickup v k i (cause-exactly why .0 e) (s .0) (s .1) (s .2))
 

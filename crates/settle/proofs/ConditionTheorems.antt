@@ -10,7 +10,8 @@ use Rattle.fold.proofs.BoolLaws.{passes-or-fails, and-left, and-right, and-both
 use Rattle.layout.specs.declared.CardRow.{CardRow}
 use Rattle.layout.specs.declared.Row.{Row}
 use Rattle.layout.specs.View.{View, Settings}
-use Rattle.settle.specs.Conditions.{fed, othersLoad, returnsAfterSelfStart, clearOf, seesOwnZone, backsUp}
+use Rattle.sides.specs.declared.Primary.{Primary}
+use Rattle.settle.specs.Conditions.{pickupAt, fed, othersLoad, returnsAfterSelfStart, clearOf, seesOwnZone, backsUp}
 use Rattle.settle.specs.Conditions.{withinDelays, margin, marginBetween, gradedAbove, staysClear, seesNear}
 use Rattle.settle.specs.Inequalities.{GradedAbove, SeesNear}
 
@@ -18,26 +19,27 @@ use Rattle.settle.specs.Inequalities.{GradedAbove, SeesNear}
 at-most : (a b : ℕ) → (leb a b ≡ true) ↔ (a ≤ b)
 at-most a b = (leb-true a b, le-leb a b)
 
-pub P1-exactly : (r : Row) (I : ℕ) → (returnsAfterSelfStart r I ≡ true) ↔ (11 * r .selfstart * r .work ≤ 10 * I * r .returnfactor)
+pub P1-exactly :
+    (r : Row) (I : Primary) → (returnsAfterSelfStart r I ≡ true) ↔ (11 * r .selfstart * r .work .0 ≤ 10 * I .0 * r .returnfactor)
 unfolding returnsAfterSelfStart
-P1-exactly r I = at-most (11 * r .selfstart * r .work) (10 * I * r .returnfactor)
+P1-exactly r I = at-most (11 * r .selfstart * r .work .0) (10 * I .0 * r .returnfactor)
 
 pub P2-exactly :
-    (v : View) (k : Settings) (i j I : ℕ) → (clearOf v k i j I ≡ true) ↔
-    (11 * (k j .pickup * v .row j .volts + othersLoad v i j) ≤ 10 * I * v .row i .volts)
+    (v : View) (k : Settings) (i j : ℕ) (I : Primary) → (clearOf v k i j I ≡ true) ↔
+    (11 * (pickupAt v k j .0 * v .row j .volts + othersLoad v i j) ≤ 10 * I .0 * v .row i .volts)
 unfolding clearOf
-P2-exactly v k i j I = at-most (11 * (k j .pickup * v .row j .volts + othersLoad v i j)) (10 * I * v .row i .volts)
+P2-exactly v k i j I = at-most (11 * (pickupAt v k j .0 * v .row j .volts + othersLoad v i j)) (10 * I .0 * v .row i .volts)
 
-pub P3-exactly : (r : Row) (I : ℕ) → (seesOwnZone r I ≡ true) ↔ (15 * I ≤ 10 * r .far)
+pub P3-exactly : (r : Row) (I : Primary) → (seesOwnZone r I ≡ true) ↔ (15 * I .0 ≤ 10 * r .far .0)
 unfolding seesOwnZone
-P3-exactly r I = at-most (15 * I) (10 * r .far)
+P3-exactly r I = at-most (15 * I .0) (10 * r .far .0)
 
 pub P4-exactly :
-    (r f : Row) (I : ℕ) → (backsUp r f I ≡ true) ↔ (f .backed ≡ 1 → 12 * I * r .volts ≤ 10 * f .far * f .volts)
+    (r f : Row) (I : Primary) → (backsUp r f I ≡ true) ↔ (f .backed ≡ 1 → 12 * I .0 * r .volts ≤ 10 * f .far .0 * f .volts)
 unfolding backsUp
 P4-exactly r f I = (
-  λ t b. leb-true (12 * I * r .volts) (10 * f .far * f .volts) (implies (eqb (f .backed) 1) _ t (eq-eqb (f .backed) 1 b)),
-  λ h. implied (eqb (f .backed) 1) _ (λ t. le-leb (12 * I * r .volts) (10 * f .far * f .volts) (h (eqb-true (f .backed) 1 t))),
+  λ t b. leb-true (12 * I .0 * r .volts) (10 * f .far .0 * f .volts) (implies (eqb (f .backed) 1) _ t (eq-eqb (f .backed) 1 b)),
+  λ h. implied (eqb (f .backed) 1) _ (λ t. le-leb (12 * I .0 * r .volts) (10 * f .far .0 * f .volts) (h (eqb-true (f .backed) 1 t))),
 )
 
 pub D1-exactly : (r : Row) (t : ℕ) → (withinDelays r t ≡ true) ↔ ((r .floor ≤ t) × (t ≤ r .ceiling) × (r .kind ≡ 3 → 100 ≤ t))
@@ -70,26 +72,26 @@ pub steps : (margin 1 ≡ 300) × (margin 2 ≡ 500) × (margin 3 ≡ 200)
 unfolding margin
 steps = (refl, refl, refl)
 
-pub clear-exactly : (r : Row) (C : ℕ) → (staysClear r C ≡ true) ↔ (r .factor * r .clear ≤ 1000 * C)
+pub clear-exactly : (r : Row) (C : Primary) → (staysClear r C ≡ true) ↔ (r .factor * r .clear .0 ≤ 1000 * C .0)
 unfolding staysClear
-clear-exactly r C = at-most (r .factor * r .clear) (1000 * C)
+clear-exactly r C = at-most (r .factor * r .clear .0) (1000 * C .0)
 
-pub near-exactly : (r : Row) (C : ℕ) → (seesNear r C ≡ true) ↔ SeesNear r C
+pub near-exactly : (r : Row) (C : Primary) → (seesNear r C ≡ true) ↔ SeesNear r C
 unfolding seesNear
 near-exactly r C = (to, from)
   where
-    to : leb (cond (eqb (r .kind) 1) 12 20 * C) (10 * r .near) ≡ true → SeesNear r C
+    to : leb (cond (eqb (r .kind) 1) 12 20 * C .0) (10 * r .near .0) ≡ true → SeesNear r C
     to t =
         record {
-          line = λ e. leb-true (12 * C) (10 * r .near) (rw (eq-eqb (r .kind) 1 e) at t);
-          other = λ n. leb-true (20 * C) (10 * r .near) (rw (ne-eqb (r .kind) 1 n) at t);
+          line = λ e. leb-true (12 * C .0) (10 * r .near .0) (rw (eq-eqb (r .kind) 1 e) at t);
+          other = λ n. leb-true (20 * C .0) (10 * r .near .0) (rw (ne-eqb (r .kind) 1 n) at t);
         }
 
-    from : SeesNear r C → leb (cond (eqb (r .kind) 1) 12 20 * C) (10 * r .near) ≡ true
+    from : SeesNear r C → leb (cond (eqb (r .kind) 1) 12 20 * C .0) (10 * r .near .0) ≡ true
     from s =
         ⊎-elim
-        (λ (e : eqb (r .kind) 1 ≡ true). rw e (le-leb (12 * C) (10 * r .near) (s .line (eqb-true (r .kind) 1 e))))
-        (λ (e : eqb (r .kind) 1 ≡ false). rw e (le-leb (20 * C) (10 * r .near) (s .other (eqb-false (r .kind) 1 e))))
+        (λ (e : eqb (r .kind) 1 ≡ true). rw e (le-leb (12 * C .0) (10 * r .near .0) (s .line (eqb-true (r .kind) 1 e))))
+        (λ (e : eqb (r .kind) 1 ≡ false). rw e (le-leb (20 * C .0) (10 * r .near .0) (s .other (eqb-false (r .kind) 1 e))))
         (passes-or-fails (eqb (r .kind) 1))
 
 pub fed-exactly : (v : View) (i j : ℕ) → (fed v i j ≡ true) ↔ (v .row j .feeder ≡ i + 1)

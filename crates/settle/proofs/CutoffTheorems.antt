@@ -7,34 +7,36 @@ use Prim.Native.Nat.{ℕ, _<_}
 use Rattle.fold.specs.declared.Found.{Found}
 use Rattle.fold.specs.declared.Found.the-variants.{At, Nothing}
 use Rattle.fold.proofs.BoolLaws.{passes-or-fails, fails, not-both}
-use Rattle.grid.proofs.GridLaws.{leastOn-least, leastOn-nothing, leastOn-is}
 use Rattle.layout.specs.declared.Row.{Row}
 use Rattle.settle.specs.declared.Cutoff.{Cutoff}
 use Rattle.settle.specs.declared.Cutoff.the-variants.{Fitted, NotFitted}
-use Rattle.settle.specs.Conditions.{staysClear, seesNear}
+use Rattle.sides.specs.declared.Secondary.{Secondary}
+use Rattle.sides.specs.Sides.{keyed}
+use Rattle.settle.specs.Conditions.{primaryOf, staysClear, seesNear}
 use Rattle.settle.specs.Inequalities.{CutoffPickup, SeesNear, CutoffIs}
 use Rattle.settle.specs.Inequalities.CutoffIs.{fitted, not-fitted}
 use Rattle.settle.specs.Settle.{leastPickup, cutoffOf, printed, shown}
 use Rattle.settle.proofs.ConditionTheorems.{clear-exactly, near-exactly}
+use Rattle.settle.proofs.LeastPickupLaws.{least-exactly, none-exactly}
 use Rattle.settle.proofs.OutcomeLaws.{cutoff-fitted, cutoff-blind, cutoff-none}
 
-module _ (r : Row) (p : 0 < r .step) where
-  cutoff-pickup : (C : ℕ) → leastPickup r (staysClear r) ≡ At C → CutoffPickup r C
+module _ (r : Row) (p : 0 < r .step .0) where
+  cutoff-pickup : (C : ℕ) → leastPickup r (staysClear r) ≡ At C → CutoffPickup r (keyed C)
   cutoff-pickup C e =
-      let m = leastOn-least _ _ _ p (staysClear r) C e in
+      let m = least-exactly r p (staysClear r) C .0 e in
       record {
         available = m .available;
-        stays-clear = clear-exactly r C .0 (m .passes);
-        least = λ x a h. m .least x a (clear-exactly r x .1 h);
+        stays-clear = clear-exactly r _ .0 (m .passes);
+        least = λ x a h. m .least x a (clear-exactly r (primaryOf r x) .1 h);
       }
 
-  pickup-of-cutoff : (C : ℕ) → CutoffPickup r C → leastPickup r (staysClear r) ≡ At C
+  pickup-of-cutoff : (C : Secondary) → CutoffPickup r C → leastPickup r (staysClear r) ≡ At (C .0)
   pickup-of-cutoff C m =
-      leastOn-is _ _ _ p (staysClear r) C
+      least-exactly r p (staysClear r) (C .0) .1
       (record {
         available = m .available;
-        passes = clear-exactly r C .1 (m .stays-clear);
-        least = λ x a t. m .least x a (clear-exactly r x .0 t);
+        passes = clear-exactly r (primaryOf r C) .1 (m .stays-clear);
+        least = λ x a t. m .least x a (clear-exactly r _ .0 t);
       })
 
   found-one : {C x : ℕ} → At C ≡ At x → C ≡ x
@@ -47,33 +49,37 @@ module _ (r : Row) (p : 0 < r .step) where
       is : (f : Found) → leastPickup r (staysClear r) ≡ f → CutoffIs r (cutoffOf r)
       is (At C) e =
           ⊎-elim
-          (λ (s : seesNear r C ≡ true).
-          subst (CutoffIs r) (cutoff-fitted r C e s) (fitted C (cutoff-pickup C e) (near-exactly r C .0 s)))
-          (λ (s : seesNear r C ≡ false).
+          (λ (s : seesNear r (primaryOf r (keyed C)) ≡ true).
+          subst (CutoffIs r) (cutoff-fitted r C e s) (fitted (keyed C) (cutoff-pickup C e) (near-exactly r _ .0 s)))
+          (λ (s : seesNear r (primaryOf r (keyed C)) ≡ false).
           subst (CutoffIs r) (cutoff-blind r C e s)
           (not-fitted
           (λ x m n.
-          let x≡C = found-one (sym e ∙ pickup-of-cutoff x m) in
-          not-both (near-exactly r x .1 n) (rw (← x≡C) s))))
-          (passes-or-fails (seesNear r C))
+          let C≡x = found-one (sym e ∙ pickup-of-cutoff x m) in
+          not-both (near-exactly r (primaryOf r x) .1 n) (subst (λ (y : ℕ). seesNear r (primaryOf r (keyed y)) ≡ false) C≡x s))))
+          (passes-or-fails (seesNear r (primaryOf r (keyed C))))
       is Nothing e =
           subst (CutoffIs r) (cutoff-none r e)
-          (not-fitted (λ x m n. not-both (clear-exactly r x .1 (m .stays-clear)) (leastOn-nothing _ _ _ p (staysClear r) e x (m .available))))
+          (not-fitted (λ x m n. not-both (clear-exactly r (primaryOf r x) .1 (m .stays-clear)) (none-exactly r p (staysClear r) .0 e x (m .available))))
 
-      none : (f : Found) → leastPickup r (staysClear r) ≡ f → ((C : ℕ) → CutoffPickup r C → SeesNear r C → ⊥) → cutoffOf r ≡ NotFitted
+      none :
+          (f : Found) → leastPickup r (staysClear r) ≡ f → ((C : Secondary) → CutoffPickup r C → SeesNear r (primaryOf r C) → ⊥) →
+          cutoffOf r ≡ NotFitted
       none (At C) e n =
-          sym (cutoff-blind r C e (fails (seesNear r C) (λ s. n C (cutoff-pickup C e) (near-exactly r C .0 s))))
+          sym (cutoff-blind r C e (fails (seesNear r (primaryOf r (keyed C))) (λ s. n (keyed C) (cutoff-pickup C e) (near-exactly r _ .0 s))))
       none Nothing e n = sym (cutoff-none r e)
 
       so : {c : Cutoff} → CutoffIs r c → cutoffOf r ≡ c
-      so (fitted C m n) = sym (cutoff-fitted r C (pickup-of-cutoff C m) (near-exactly r C .1 n))
+      so (fitted C m n) = sym (cutoff-fitted r (C .0) (pickup-of-cutoff C m) (near-exactly r (primaryOf r C) .1 n))
       so (not-fitted n) = none (leastPickup r (staysClear r)) refl n
 
 -- what the card shows: the cutoff's pickup, or 0 where none is fitted
-pub shown-fitted : (I t C : ℕ) → shown (record { pickup = I; delay = t; cutoff = Fitted C }) ≡ record { pickup = I; delay = t; cutoff = C }
+pub shown-fitted :
+    (I : Secondary) (t : ℕ) (C : Secondary) → shown (record { pickup = I; delay = t; cutoff = Fitted C }) ≡ record { pickup = I; delay = t; cutoff = C }
 unfolding shown printed
 shown-fitted I t C = refl
 
-pub shown-not-fitted : (I t : ℕ) → shown (record { pickup = I; delay = t; cutoff = NotFitted }) ≡ record { pickup = I; delay = t; cutoff = 0 }
+pub shown-not-fitted :
+    (I : Secondary) (t : ℕ) → shown (record { pickup = I; delay = t; cutoff = NotFitted }) ≡ record { pickup = I; delay = t; cutoff = keyed 0 }
 unfolding shown printed
 shown-not-fitted I t = refl

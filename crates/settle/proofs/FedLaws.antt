@@ -13,7 +13,8 @@ use Rattle.fold.proofs.FoldLaws.{Attained, maxTo-attained, le-maxTo, sumTo-zero
 use Rattle.layout.specs.declared.Row.{Row}
 use Rattle.layout.specs.View.{View, Settings}
 use Rattle.layout.specs.Range.{AllBounded}
-use Rattle.settle.specs.Conditions.{fed, eachFed, loadOf, othersLoad, returnsAfterSelfStart, clearOf, withinDelays, gradedAbove}
+use Rattle.sides.specs.declared.Primary.{Primary}
+use Rattle.settle.specs.Conditions.{pickupAt, fed, eachFed, loadOf, othersLoad, returnsAfterSelfStart, clearOf, withinDelays, gradedAbove}
 use Rattle.settle.specs.Fed.{reach, excess, shortfall, earliest, gathered, clearOfAll, backsUpAll, unbackedBy, lowerBy, pickedBy, delayBy, settledBy}
 use Rattle.settle.specs.Inequalities.{Feeding, BacksUp}
 use Rattle.settle.specs.Settle.{meetsLower, firstUnbacked, leastPickup, candidate, picked, meetsDelay, leastDelay, outcomeOf, settled}
@@ -26,8 +27,8 @@ counted-fed : {b : Bool} (x : ℕ) → b ≡ true → cond b x 0 ≡ x
 counted-fed x e = rw e
 
 -- a row's shortfall counts only where it is backed
-shortfall-by : (f : Row) (b : Bool) → eqb (f .backed) 1 ≡ b → shortfall f ≡ cond b (reach - f .far * f .volts) 0
-shortfall-by f b e = ap (λ (b : Bool). cond b (reach - f .far * f .volts) 0) e
+shortfall-by : (f : Row) (b : Bool) → eqb (f .backed) 1 ≡ b → shortfall f ≡ cond b (reach - f .far .0 * f .volts) 0
+shortfall-by f b e = ap (λ (b : Bool). cond b (reach - f .far .0 * f .volts) 0) e
 
 -- the greatest of the numbers that count is 0 or one of them
 record Greatest (on : ℕ → Bool) (f : ℕ → ℕ) (n m : ℕ) : Type 0 where
@@ -60,7 +61,7 @@ module _ (v : View) (a : AllBounded v) (k : Settings) (i : ℕ) (h : i < v .coun
 
   clear-at-most :
       (j : ℕ) → j < v .count → fed v i j ≡ true →
-      k j .pickup * v .row j .volts + othersLoad v i j ≤ gathered v k i .excess + gathered v k i .load - reach
+      pickupAt v k j .0 * v .row j .volts + othersLoad v i j ≤ gathered v k i .excess + gathered v k i .load - reach
   clear-at-most j b g =
       let m = le-maxTo (λ j. cond (fed v i j) (excess (v .row j) (k j)) 0) (v .count) j b in
       omega (arith, load-bounded (a j b), load-others j b g, counted-fed (excess (v .row j) (k j)) g)
@@ -81,15 +82,15 @@ module _ (v : View) (a : AllBounded v) (k : Settings) (i : ℕ) (h : i < v .coun
           )
 
   -- P2 for every fed row, and for the greatest excess
-  clear-each : (I : ℕ) → clearOfAll (v .row i) (gathered v k i) I ≡ true → eachFed v i (λ j. clearOf v k i j I) ≡ true
+  clear-each : (I : Primary) → clearOfAll (v .row i) (gathered v k i) I ≡ true → eachFed v i (λ j. clearOf v k i j I) ≡ true
   unfolding clearOfAll
   clear-each I t =
-      let c = leb-true (11 * (gathered v k i .excess + gathered v k i .load - reach)) (10 * I * v .row i .volts) t in
+      let c = leb-true (11 * (gathered v k i .excess + gathered v k i .load - reach)) (10 * I .0 * v .row i .volts) t in
       each-fed-of v i (λ j. clearOf v k i j I)
       (λ j b g. P2-exactly v k i j I .1 (le-trans (mul-le-mul-left 11 (clear-at-most j b g)) c))
 
   clear-greatest :
-      (I : ℕ) → eachFed v i (λ j. clearOf v k i j I) ≡ true → 11 * (gathered v k i .excess + gathered v k i .load - reach) ≤ 10 * I * v .row i .volts
+      (I : Primary) → eachFed v i (λ j. clearOf v k i j I) ≡ true → 11 * (gathered v k i .excess + gathered v k i .load - reach) ≤ 10 * I .0 * v .row i .volts
   clear-greatest I t =
       ⊎-elim
       (λ z. omega (arith, no-excess z))
@@ -98,32 +99,32 @@ module _ (v : View) (a : AllBounded v) (k : Settings) (i : ℕ) (h : i < v .coun
       omega (arith, load-bounded (a (m .at) (m .below)), load-others (m .at) (m .below) (m .counts), m .is))
       (greatest (fed v i) (λ j. excess (v .row j) (k j)) (v .count))
 
-  pub clear-of-all : (I : ℕ) → clearOfAll (v .row i) (gathered v k i) I ≡ eachFed v i (λ j. clearOf v k i j I)
+  pub clear-of-all : (I : Primary) → clearOfAll (v .row i) (gathered v k i) I ≡ eachFed v i (λ j. clearOf v k i j I)
   clear-of-all I = same-test _ _ (clear-each I) (λ t. unfold clearOfAll in le-leb _ _ (clear-greatest I t))
 
   -- P4 for every fed row, and for the greatest shortfall
-  far-to : (j : ℕ) → j < v .count → v .row j .far * v .row j .volts ≤ 50000000000000
+  far-to : (j : ℕ) → j < v .count → v .row j .far .0 * v .row j .volts ≤ 250000000000000
   far-to j b = let q = a j b in current-volts (q .far-to) (q .volts-to)
 
-  backs-each : (I : ℕ) → backsUpAll (v .row i) (gathered v k i) I ≡ true → (j : ℕ) → j < v .count → Feeding v i j → BacksUp v i j I
+  backs-each : (I : Primary) → backsUpAll (v .row i) (gathered v k i) I ≡ true → (j : ℕ) → j < v .count → Feeding v i j → BacksUp v i j I
   unfolding backsUpAll
   backs-each I t j b f backed =
       let r = v .row j in
       omega (
         arith,
-        leb-true (12 * I * v .row i .volts) (10 * (reach - gathered v k i .shortfall)) t,
+        leb-true (12 * I .0 * v .row i .volts) (10 * (reach - gathered v k i .shortfall)) t,
         le-maxTo (λ j. cond (fed v i j) (shortfall (v .row j)) 0) (v .count) j b,
         counted-fed (shortfall r) (fed-exactly v i j .1 f),
         shortfall-by r true (eq-eqb (r .backed) 1 backed),
-        mul-assoc 10 (r .far) (r .volts),
+        mul-assoc 10 (r .far .0) (r .volts),
         far-to j b,
       )
 
   backs-greatest :
-      (I : ℕ) → I ≤ 100000000 → ((j : ℕ) → j < v .count → Feeding v i j → BacksUp v i j I) →
-      12 * I * v .row i .volts ≤ 10 * (reach - gathered v k i .shortfall)
+      (I : Primary) → I .0 ≤ 500000000 → ((j : ℕ) → j < v .count → Feeding v i j → BacksUp v i j I) →
+      12 * I .0 * v .row i .volts ≤ 10 * (reach - gathered v k i .shortfall)
   backs-greatest I b all =
-      let most : 12 * I * v .row i .volts ≤ 600000000000000 = mul-le-mul (mul-le-mul-left 12 b) (a i h .volts-to) in
+      let most : 12 * I .0 * v .row i .volts ≤ 3000000000000000 = mul-le-mul (mul-le-mul-left 12 b) (a i h .volts-to) in
       ⊎-elim
       (λ z. omega arith)
       (λ m.
@@ -131,18 +132,18 @@ module _ (v : View) (a : AllBounded v) (k : Settings) (i : ℕ) (h : i < v .coun
       ⊎-elim
       (λ (backed : eqb (r .backed) 1 ≡ true).
       let c = all (m .at) (m .below) (fed-exactly v i (m .at) .0 (m .counts)) (eqb-true (r .backed) 1 backed) in
-      omega (arith, shortfall-by r true backed, mul-assoc 10 (r .far) (r .volts), m .is, far-to (m .at) (m .below)))
+      omega (arith, shortfall-by r true backed, mul-assoc 10 (r .far .0) (r .volts), m .is, far-to (m .at) (m .below)))
       (λ (backed : eqb (r .backed) 1 ≡ false). omega (arith, shortfall-by r false backed, m .is))
       (passes-or-fails (eqb (r .backed) 1)))
       (greatest (fed v i) (λ j. shortfall (v .row j)) (v .count))
 
   pub backs-all-exactly :
-      (I : ℕ) → I ≤ 100000000 → (backsUpAll (v .row i) (gathered v k i) I ≡ true) ↔ ((j : ℕ) → j < v .count → Feeding v i j → BacksUp v i j I)
+      (I : Primary) → I .0 ≤ 500000000 → (backsUpAll (v .row i) (gathered v k i) I ≡ true) ↔ ((j : ℕ) → j < v .count → Feeding v i j → BacksUp v i j I)
   unfolding backsUpAll
   backs-all-exactly I b = (backs-each I, λ all. le-leb _ _ (backs-greatest I b all))
 
   -- so the fed rows are gone through only where one of them fails P4, and the row is refused
-  backs-found : (I : ℕ) → unbackedBy v i (v .row i) (gathered v k i) I ≡ firstUnbacked v i (v .row i) I
+  backs-found : (I : Primary) → unbackedBy v i (v .row i) (gathered v k i) I ≡ firstUnbacked v i (v .row i) I
   unfolding unbackedBy
   backs-found I =
       ⊎-elim

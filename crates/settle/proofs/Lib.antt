@@ -3,9 +3,11 @@ pub mod CauseTheorems
 pub mod ConditionTheorems
 pub mod CutoffTheorems
 pub mod FedLaws
+pub mod LeastPickupLaws
 pub mod MarginLaws
 pub mod MeetsTheorems
 pub mod PickupLaws
 pub mod OutcomeLaws
 pub mod SameLaws
 pub mod SettledTheorems
+pub mod StaysPrimaryTheorems

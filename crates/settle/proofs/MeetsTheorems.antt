@@ -11,6 +11,7 @@ use Rattle.fold.proofs.BoolLaws.{and-left, and-right, and-both, fails, not-both
 use Rattle.fold.proofs.FirstLaws.{first-at, first-is, first-none, first-nothing}
 use Rattle.fold.proofs.FoldLaws.{every-at, every-of}
 use Rattle.layout.specs.View.{View, Settings}
+use Rattle.sides.specs.declared.Primary.{Primary}
 use Rattle.settle.specs.Conditions.{fed, eachFed, returnsAfterSelfStart, clearOf, backsUp, withinDelays, gradedAbove}
 use Rattle.settle.specs.Inequalities.{Feeding, LowerMet, BacksUp, FirstUnbacked, DelayMet}
 use Rattle.settle.specs.Settle.{meetsLower, unbacked, firstUnbacked, meetsDelay}
@@ -32,7 +33,7 @@ each-fed v i ok = (
 )
 
 module _ (v : View) (k : Settings) (i : ℕ) where
-  pub lower-exactly : (I : ℕ) → (meetsLower v k i I ≡ true) ↔ LowerMet v k i I
+  pub lower-exactly : (I : Primary) → (meetsLower v k i I ≡ true) ↔ LowerMet v k i I
   unfolding meetsLower
   lower-exactly I = (
     λ t.
@@ -66,7 +67,7 @@ module _ (v : View) (k : Settings) (i : ℕ) where
   )
 
 -- P4 for the fed rows ascending, of pickup I
-module _ (v : View) (i I : ℕ) where
+module _ (v : View) (i : ℕ) (I : Primary) where
   backed-exactly : (j : ℕ) → (unbacked v i (v .row i) I j ≡ false) ↔ (Feeding v i j → BacksUp v i j I)
   unfolding unbacked
   backed-exactly j = (

@@ -19,7 +19,8 @@ use Rattle.layout.specs.List.{rows, field}
 use Rattle.layout.specs.View.{View, viewOf, Settings}
 use Rattle.rows.specs.InRange.{Feeds}
 use Rattle.rows.proofs.InRangeLaws.{feeder-above, feeder-of-last}
-use Rattle.settle.specs.Conditions.{fed, eachFed, loadOf, othersLoad, returnsAfterSelfStart, clearOf, backsUp, withinDelays, gradedAbove}
+use Rattle.sides.specs.declared.Primary.{Primary}
+use Rattle.settle.specs.Conditions.{primaryOf, fed, eachFed, loadOf, othersLoad, returnsAfterSelfStart, clearOf, backsUp, withinDelays, gradedAbove}
 use Rattle.settle.specs.Settle.{meetsLower, unbacked, firstUnbacked, leastPickup, candidate, picked, meetsDelay, leastDelay, outcomeOf, settled}
 
 -- what counts only where a test passes is the same where the tests are and what counts is
@@ -47,19 +48,19 @@ module _ (v v′ : View) (k k′ : Settings) (i : ℕ) (n : v .count ≡ v′ .c
       (λ x b.
       where-same (λ (t : Bool) (y : ℕ). cond t y 0) (λ y y′. refl) (fed v i x && not (eqb x j)) (fed v′ i x && not (eqb x j)) _ _
       (ap (λ (t : Bool). t && not (eqb x j)) (feeding x b))
-      (λ t. ap (λ (f : Row). f .work * f .volts) (fields x b (and-left (fed v i x) _ t)))) ∙
+      (λ t. ap (λ (f : Row). f .work .0 * f .volts) (fields x b (and-left (fed v i x) _ t)))) ∙
       ap (λ (m : ℕ). sumTo m (λ x. cond (fed v′ i x && not (eqb x j)) (loadOf v′ x) 0)) n
 
-  lower-same : (I : ℕ) → meetsLower v k i I ≡ meetsLower v′ k′ i I
+  lower-same : (I : Primary) → meetsLower v k i I ≡ meetsLower v′ k′ i I
   unfolding meetsLower clearOf
   lower-same I =
       λ t.
       returnsAfterSelfStart (r t) I &&
       each-same (λ j. clearOf v k i j I) (λ j. clearOf v′ k′ i j I)
       (λ j b g.
-      λ u. leb (11 * (settings j b g u .pickup * fields j b g u .volts + others-same j u)) (10 * I * r u .volts)) t
+      λ u. leb (11 * (primaryOf (fields j b g u) (settings j b g u .pickup) .0 * fields j b g u .volts + others-same j u)) (10 * I .0 * r u .volts)) t
 
-  unbacked-same : (I : ℕ) → firstUnbacked v i (v .row i) I ≡ firstUnbacked v′ i (v′ .row i) I
+  unbacked-same : (I : Primary) → firstUnbacked v i (v .row i) I ≡ firstUnbacked v′ i (v′ .row i) I
   unfolding firstUnbacked unbacked
   unbacked-same I =
       first-same (unbacked v i (v .row i) I) (unbacked v′ i (v′ .row i) I) (v .count) 0

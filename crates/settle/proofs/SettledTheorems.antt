@@ -1,6 +1,6 @@
 -- A row is settled, or refused with RANGE, OWN ZONE or BACKUP, or with DELAY, exactly as sections 3 and 4 and request §2 say. The step
 -- above 0 is section 2's. Read with specs/Inequalities.antt.
-use mathlib.Core.Path.{_≡_, refl, ap, _∙_}
+use mathlib.Core.Path.{_≡_, refl, sym, ap, _∙_, subst}
 use mathlib.Core.Logic.{_↔_}
 use Prim.Native.Nat.{ℕ, _-_, _≤_, _<_}
 use native.Mathlib.Omega.{arith}
@@ -16,7 +16,9 @@ use Rattle.layout.specs.declared.CardRow.{CardRow}
 use Rattle.layout.specs.declared.Row.{Row}
 use Rattle.layout.specs.View.{View, Settings}
 use Rattle.settle.specs.declared.Settled.the-variants.{Unset}
-use Rattle.settle.specs.Inequalities.{SomePickup, NoDelay, NoCandidate, CauseIs, LeastRow, RowSettled}
+use Rattle.sides.specs.declared.Secondary.{Secondary}
+use Rattle.settle.specs.Conditions.{primaryOf}
+use Rattle.settle.specs.Inequalities.{AvailableOn, PickupMet, SomePickup, NoDelay, NoCandidate, CauseIs, LeastRow, RowSettled}
 use Rattle.settle.specs.Inequalities.CauseIs.{RANGE}
 use Rattle.settle.specs.Settle.{pickupOf, meetsDelay, leastDelay, cutoffOf, printed, shown, outcomeOf, settled}
 use Rattle.settle.proofs.CauseTheorems.{range-means, cause-exactly, fits-exactly, fits-some, least-candidate}
@@ -28,7 +30,7 @@ pub delay-available :
     (r : Row) (t : ℕ) → (r .floor ≤ t) × (t ≤ r .ceiling) × (r .kind ≡ 3 → 100 ≤ t) → Available (r .floor) (r .ceiling) 1 t
 delay-available r t d = record { steps = t - r .floor; on-grid = omega (arith, d .0); within = d .1 }
 
-module _ (v : View) (k : Settings) (i : ℕ) (p : 0 < v .row i .step) where
+module _ (v : View) (k : Settings) (i : ℕ) (p : 0 < v .row i .step .0) where
   abbrev delay : Found
   delay = leastDelay (v .row i) (meetsDelay v k i)
 
@@ -72,11 +74,13 @@ module _ (v : View) (k : Settings) (i : ℕ) (p : 0 < v .row i .step) where
       let m = fits-exactly v k i p (o .pickup) .0 (q .pickup-fits) in
       let d = leastOn-least _ _ 1 (omega arith) (meetsDelay v k i) (o .delay) (q .delay-found) in
       let pickup : k i .pickup ≡ o .pickup = ap (λ (r : CardRow). r .pickup) (s .shows) in
+      let back : o .pickup ≡ k i .pickup = sym pickup in
       let delay : k i .delay ≡ o .delay = ap (λ (r : CardRow). r .delay) (s .shows) in
       record {
-        available = rw pickup (m .0 .available);
-        pickup = rw pickup (m .1);
-        no-lower = λ I a h. rw pickup (m .0 .least I a (h .P1-P2));
+        available = subst (AvailableOn (v .row i)) back (m .0 .available);
+        pickup = subst (λ (x : Secondary). PickupMet v k i (primaryOf (v .row i) x)) back (m .1);
+        no-lower =
+            λ x a h. subst (λ (y : Secondary). primaryOf (v .row i) y .0 ≤ primaryOf (v .row i) x .0) back (m .0 .least x a (h .P1-P2));
         delay = rw delay (delay-exactly v k i (o .delay) .0 (d .passes));
         no-shorter = λ t h. rw delay (d .least t (delay-available (v .row i) t (h .D1)) (delay-exactly v k i t .1 h));
         cutoff = ap (λ (r : CardRow). r .cutoff) (s .shows) ∙ ap printed (q .cutoff-is);

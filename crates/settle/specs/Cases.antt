@@ -1,4 +1,4 @@
--- [01 §3, §4], [02 §2, §5] Worked cases of one row's conditions and of its settling, each worked out by hand from the section, on each
+-- [01 §3, §4], [02 §1, §2, §5] Worked cases of one row's conditions and of its settling, each worked out by hand from the section, on each
 -- side of every bound. Rows are named by their numbers, from 1. Definitions only.
 use mathlib.Core.Bool.{Bool, true, false, not, _&&_}
 use mathlib.Core.List.{List, [], _∷_}
@@ -9,12 +9,14 @@ use Rattle.answers.specs.declared.Answer.the-variants.{Unsettled}
 use Rattle.answers.specs.Answer.{givenBy}
 use Rattle.layout.specs.Card.{columnsOf}
 use Rattle.layout.specs.Counts.{fieldCount}
-use Rattle.layout.specs.Fields.{atKind, atFar, atNear, atLow, atHigh, atDevice, atFloor, atCeiling, atBacked}
+use Rattle.layout.specs.Fields.{atKind, atWork, atFar, atNear, atLow, atHigh, atStep, atDevice, atFloor, atCeiling, atBacked, atPrimary, atSecondary}
 use Rattle.layout.specs.View.{viewOf, Settings}
 use Rattle.layout.specs.declared.CardRow.{CardRow}
 use Rattle.layout.specs.declared.Row.{Row}
 use Rattle.settle.specs.declared.Settled.{Settled}
 use Rattle.settle.specs.declared.Settled.the-variants.{Set, Unset}
+use Rattle.sides.specs.declared.Primary.{Primary}
+use Rattle.sides.specs.Sides.{keyed}
 use Rattle.settle.specs.Conditions.{eachFed, returnsAfterSelfStart, clearOf, seesOwnZone, backsUp}
 use Rattle.settle.specs.Conditions.{withinDelays, marginBetween, gradedAbove, staysClear, seesNear}
 use Rattle.settle.specs.Settle.{shown, settled}
@@ -23,18 +25,28 @@ use Rattle.settle.specs.Settle.{shown, settled}
 -- devices are 1, 2, 3 and 1.
 unfoldable pub network : List ℕ
 network =
-    1 ∷ 2 ∷ 1 ∷ 6000 ∷ 10000 ∷ 1100 ∷ 1000 ∷ 90000 ∷ 100000 ∷ 146520 ∷ 1200 ∷ 2100 ∷ 502100 ∷ 10000 ∷ 1 ∷ 0 ∷ 1000 ∷ 1 ∷
-    2 ∷ 4 ∷ 2 ∷ 10000 ∷ 30000 ∷ 1000 ∷ 800 ∷ 80000 ∷ 500000 ∷ 1002500 ∷ 1000 ∷ 1250 ∷ 1001250 ∷ 10000 ∷ 2 ∷ 0 ∷ 900 ∷ 0 ∷
-    3 ∷ 4 ∷ 3 ∷ 400 ∷ 150000 ∷ 5000 ∷ 1000 ∷ 2250000 ∷ 1000000 ∷ 3050000 ∷ 1500 ∷ 25000 ∷ 9925000 ∷ 100000 ∷ 3 ∷ 0 ∷ 500 ∷ 1 ∷
+    1 ∷ 2 ∷ 1 ∷ 6000 ∷ 10000 ∷ 1100 ∷ 1000 ∷ 90000 ∷ 100000 ∷ 146520 ∷ 1200 ∷ 2100 ∷ 502100 ∷ 10000 ∷ 1 ∷ 0 ∷ 1000 ∷ 1 ∷ 0 ∷ 0 ∷
+    2 ∷ 4 ∷ 2 ∷ 10000 ∷ 30000 ∷ 1000 ∷ 800 ∷ 80000 ∷ 500000 ∷ 1002500 ∷ 1000 ∷ 1250 ∷ 1001250 ∷ 10000 ∷ 2 ∷ 0 ∷ 900 ∷ 0 ∷ 0 ∷ 0 ∷
+    3 ∷ 4 ∷ 3 ∷ 400 ∷ 150000 ∷ 5000 ∷ 1000 ∷ 2250000 ∷ 1000000 ∷ 3050000 ∷ 1500 ∷ 25000 ∷ 9925000 ∷ 100000 ∷ 3 ∷ 0 ∷ 500 ∷ 1 ∷ 0 ∷ 0 ∷
     4 ∷ 0 ∷ 1 ∷ 6000 ∷ 50000 ∷ 1600 ∷ 880 ∷ 300000 ∷ 1000000 ∷ 1561200 ∷ 1300 ∷ 61000 ∷ 1921000 ∷ 20000 ∷ 1 ∷ 1000 ∷
-    1500 ∷ 0 ∷ []
+    1500 ∷ 0 ∷ 0 ∷ 0 ∷ []
 
 abbrev row : ℕ → Row
 row n = viewOf network .row (n - 1)
 
+-- so many mA on the primary side, a fifth of a mA less, and a fifth of a mA more
+abbrev mA : ℕ → Primary
+mA x = record { 0 = 5 * x }
+
+abbrev under : ℕ → Primary
+under x = record { 0 = 5 * x - 1 }
+
+abbrev over : ℕ → Primary
+over x = record { 0 = 5 * x + 1 }
+
 -- the settings of the rows below: pickup and delay
 abbrev card : ℕ → ℕ → CardRow
-card I t = record { pickup = I; delay = t; cutoff = 0 }
+card I t = record { pickup = keyed I; delay = t; cutoff = keyed 0 }
 
 unfoldable pub below : Settings
 below zero = card 20000 400
@@ -55,10 +67,10 @@ fails b = not b
 
 -- P2 of row n above row m, and above every row that it feeds; D2 of row n above row m, and the step between two devices; the others
 -- are named as they are
-abbrev clearAbove : ℕ → ℕ → ℕ → Bool
+abbrev clearAbove : ℕ → ℕ → Primary → Bool
 clearAbove n m I = clearOf (viewOf network) below (n - 1) (m - 1) I
 
-abbrev clearAboveAll : ℕ → ℕ → Bool
+abbrev clearAboveAll : ℕ → Primary → Bool
 clearAboveAll n I = eachFed (viewOf network) (n - 1) (λ j. clearOf (viewOf network) below (n - 1) j I)
 
 abbrev laterThan : ℕ → ℕ → ℕ → Bool
@@ -70,23 +82,23 @@ stepIs d e x = eqb (marginBetween d e) x
 unfoldable pub conditions : List Bool
 conditions =
     -- P1: 10 × 12,100 × 1,000 = 11 × 1,100 × 10,000, and the same of rows 2, 3 and 4
-    holds (returnsAfterSelfStart (row 1) 12100) ∷ fails (returnsAfterSelfStart (row 1) 12099)
-    ∷ holds (returnsAfterSelfStart (row 2) 41250) ∷ fails (returnsAfterSelfStart (row 2) 41249)
-    ∷ holds (returnsAfterSelfStart (row 3) 825000) ∷ fails (returnsAfterSelfStart (row 3) 824999)
-    ∷ holds (returnsAfterSelfStart (row 4) 100000) ∷ fails (returnsAfterSelfStart (row 4) 99999)
+    holds (returnsAfterSelfStart (row 1) (mA 12100)) ∷ fails (returnsAfterSelfStart (row 1) (under 12100))
+    ∷ holds (returnsAfterSelfStart (row 2) (mA 41250)) ∷ fails (returnsAfterSelfStart (row 2) (under 41250))
+    ∷ holds (returnsAfterSelfStart (row 3) (mA 825000)) ∷ fails (returnsAfterSelfStart (row 3) (under 825000))
+    ∷ holds (returnsAfterSelfStart (row 4) (mA 100000)) ∷ fails (returnsAfterSelfStart (row 4) (under 100000))
     -- P2: 10 × 121,000 × 6,000 = 11 × (60,000 × 10,000 + 150,000 × 400), the motor being the other
-    ∷ holds (clearAbove 4 2 121000) ∷ fails (clearAbove 4 2 120999)
+    ∷ holds (clearAbove 4 2 (mA 121000)) ∷ fails (clearAbove 4 2 (under 121000))
     -- 10 × 110,000 × 6,000 = 11 × (750,000 × 400 + 30,000 × 10,000), the transformer being the other
-    ∷ holds (clearAbove 4 3 110000) ∷ fails (clearAbove 4 3 109999)
-    ∷ holds (clearAboveAll 4 121000) ∷ fails (clearAboveAll 4 120999)
+    ∷ holds (clearAbove 4 3 (mA 110000)) ∷ fails (clearAbove 4 3 (under 110000))
+    ∷ holds (clearAboveAll 4 (mA 121000)) ∷ fails (clearAboveAll 4 (under 121000))
     -- 10 × 13,200 × 10,000 = 11 × 20,000 × 6,000, and no other
-    ∷ holds (clearAboveAll 2 13200) ∷ fails (clearAboveAll 2 13199)
+    ∷ holds (clearAboveAll 2 (mA 13200)) ∷ fails (clearAboveAll 2 (under 13200))
     -- P3: 10 × 300,000 = 15 × 200,000
-    ∷ holds (seesOwnZone (row 4) 200000) ∷ fails (seesOwnZone (row 4) 200001)
+    ∷ holds (seesOwnZone (row 4) (mA 200000)) ∷ fails (seesOwnZone (row 4) (over 200000))
     -- P4: 10 × 2,250,000 × 400 = 12 × 125,000 × 6,000, and 10 × 90,000 × 6,000 = 12 × 45,000 × 10,000; row 2 is not backed
-    ∷ holds (backsUp (row 4) (row 3) 125000) ∷ fails (backsUp (row 4) (row 3) 125001)
-    ∷ holds (backsUp (row 2) (row 1) 45000) ∷ fails (backsUp (row 2) (row 1) 45001)
-    ∷ holds (backsUp (row 4) (row 2) 100000000)
+    ∷ holds (backsUp (row 4) (row 3) (mA 125000)) ∷ fails (backsUp (row 4) (row 3) (over 125000))
+    ∷ holds (backsUp (row 2) (row 1) (mA 45000)) ∷ fails (backsUp (row 2) (row 1) (over 45000))
+    ∷ holds (backsUp (row 4) (row 2) (mA 100000000))
     -- D1: floor 1,000 and ceiling 1,500; the motor waits 100, and no other does
     ∷ holds (withinDelays (row 4) 1000) ∷ fails (withinDelays (row 4) 999)
     ∷ holds (withinDelays (row 4) 1500) ∷ fails (withinDelays (row 4) 1501)
@@ -101,12 +113,12 @@ conditions =
     ∷ stepIs 2 1 500 ∷ stepIs 2 2 500 ∷ stepIs 2 3 500
     ∷ stepIs 3 1 300 ∷ stepIs 3 2 500 ∷ stepIs 3 3 200
     -- cutoff: 1,000 × 1,300,000 = 1,300 × 1,000,000
-    ∷ holds (staysClear (row 4) 1300000) ∷ fails (staysClear (row 4) 1299999)
+    ∷ holds (staysClear (row 4) (mA 1300000)) ∷ fails (staysClear (row 4) (under 1300000))
     -- 10 × 1,561,200 = 12 × 1,301,000 for a line; 10 × 1,002,500 = 20 × 501,250 for a transformer; 10 × 3,050,000 =
     -- 20 × 1,525,000 for a motor
-    ∷ holds (seesNear (row 4) 1301000) ∷ fails (seesNear (row 4) 1301001)
-    ∷ holds (seesNear (row 2) 501250) ∷ fails (seesNear (row 2) 501251)
-    ∷ holds (seesNear (row 3) 1525000) ∷ fails (seesNear (row 3) 1525001)
+    ∷ holds (seesNear (row 4) (mA 1301000)) ∷ fails (seesNear (row 4) (over 1301000))
+    ∷ holds (seesNear (row 2) (mA 501250)) ∷ fails (seesNear (row 2) (over 501250))
+    ∷ holds (seesNear (row 3) (mA 1525000)) ∷ fails (seesNear (row 3) (over 1525000))
     ∷ []
 
 -- row n settled: 0 and its card row, or the numbers of its refusal
@@ -138,6 +150,14 @@ refuses l n number fed = comesTo l n (number ∷ n ∷ fed ∷ [])
 -- the list with another number in a field of row n
 abbrev pub with : List ℕ → ℕ → ℕ → ℕ → List ℕ
 with l n k x = set l ((n - 1) * fieldCount + k) x
+
+-- and with a current transformer there
+abbrev pub ratio : List ℕ → ℕ → ℕ → ℕ → List ℕ
+ratio l n primary secondary = with (with l n atPrimary primary) n atSecondary secondary
+
+-- and with other pickups that the relay offers
+abbrev pub offers : List ℕ → ℕ → ℕ → ℕ → ℕ → List ℕ
+offers l n low high step = with (with (with l n atLow low) n atHigh high) n atStep step
 
 unfoldable pub settlings : List Bool
 settlings =
@@ -186,4 +206,26 @@ settlings =
     ∷ settles (with network 4 atKind 2) 4 (121000 ∷ 1200 ∷ 0 ∷ [])
     ∷ stands (with (with network 4 atKind 2) 4 atNear 2602000)
     ∷ settles (with (with network 4 atKind 2) 4 atNear 2601999) 4 (121000 ∷ 1200 ∷ 0 ∷ [])
+    -- [02 §1] row 1 at 100 / 5, P1: 605 × 20 = 12,100, and 604 is too low; its cutoff 6,000 × 20 = 120,000
+    ∷ settles (with (with (ratio network 1 100 5) 1 atLow 605) 1 atStep 5395) 1 (605 ∷ 0 ∷ 6000 ∷ [])
+    ∷ settles (offers (ratio network 1 100 5) 1 604 605 1) 1 (605 ∷ 0 ∷ 0 ∷ [])
+    ∷ refuses (offers (ratio network 1 100 5) 1 604 604 1) 1 11 0
+    -- at 11 / 1: 1,100 × 11 = 12,100, and the cutoff 11,100 × 11 = 122,100
+    ∷ settles (offers (ratio network 1 11 1) 1 1100 11100 10000) 1 (1100 ∷ 0 ∷ 11100 ∷ [])
+    ∷ refuses (offers (ratio network 1 11 1) 1 1099 1099 1) 1 11 0
+    -- row 4 at 7 / 5, P2: 86,429 × 1.4 = 121,000.6 clears the 121,000 asked, 86,428 × 1.4 = 120,999.2 does not
+    ∷ settles (offers (ratio network 4 7 5) 4 86428 86429 1) 4 (86429 ∷ 1200 ∷ 0 ∷ [])
+    ∷ refuses (offers (ratio network 4 7 5) 4 86428 86428 1) 4 11 0
+    -- P3 there: 1.5 × 121,000.6 = 181,500.9, where 121,000 would see 181,500; P4 of the motor: 12 × 121,000.6 × 6,000 = 10 × 2,178,010.8 × 400
+    ∷ settles (with (offers (ratio network 4 7 5) 4 86428 86429 1) 4 atFar 181501) 4 (86429 ∷ 1200 ∷ 0 ∷ [])
+    ∷ refuses (with (offers (ratio network 4 7 5) 4 86428 86429 1) 4 atFar 181500) 4 12 0
+    ∷ settles (with (offers (ratio network 4 7 5) 4 86428 86429 1) 3 atFar 2178011) 4 (86429 ∷ 1200 ∷ 0 ∷ [])
+    ∷ refuses (with (offers (ratio network 4 7 5) 4 86428 86429 1) 3 atFar 2178010) 4 13 3
+    -- its cutoff 928,572 × 1.4 = 1,300,000.8, where 928,571 × 1.4 = 1,299,999.4 is not clear of 1,300,000; 1.2 × 1,300,000.8 = 1,560,000.96
+    ∷ settles (with (offers (ratio network 4 7 5) 4 86429 928572 842143) 4 atNear 1560001) 4 (86429 ∷ 1200 ∷ 928572 ∷ [])
+    ∷ settles (with (offers (ratio network 4 7 5) 4 86429 928572 842143) 4 atNear 1560000) 4 (86429 ∷ 1200 ∷ 0 ∷ [])
+    ∷ settles (with (offers (ratio network 4 7 5) 4 86429 928571 842142) 4 atNear 1560001) 4 (86429 ∷ 1200 ∷ 0 ∷ [])
+    -- row 1 at 7 / 5, keyed 20,000 below, is 28,000 primary: row 2 clears 11 × 28,000 × 6,000 = 10 × 18,480 × 10,000, and not with 18,479; P1 asks less here
+    ∷ settles (offers (with (ratio network 1 7 5) 2 atWork 1) 2 18479 18480 1) 2 (18480 ∷ 900 ∷ 0 ∷ [])
+    ∷ refuses (offers (with (ratio network 1 7 5) 2 atWork 1) 2 18479 18479 1) 2 11 0
     ∷ []

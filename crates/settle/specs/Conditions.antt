@@ -1,8 +1,8 @@
--- [01 §3] The conditions, each against its line of the section. Source document 000 departs from P2: it names only the
+-- [01 §3], [02 §1] The conditions, each against its line of the section; they are judged on primary currents, in fifths of a mA on both sides. Source document 000 departs from P2: it names only the
 -- fed row of greatest pickup; section 3 asks it of every fed row. D2 is read with [02 §5]. Definitions only.
 -- v is a view of the list, i and j are rows counted from 0, r and f are rows by their fields: r the row itself, f one that it
--- feeds; d and e are their devices. I is a pickup and t a delay of the row itself; k gives the settings of each row, and s those
--- of the fed row f.
+-- feeds; d and e are their devices. I is a primary pickup, C a primary cutoff pickup and t a delay of the row itself; k gives the
+-- settings of each row as they are keyed, and s those of the fed row f.
 use mathlib.Core.Bool.{Bool, not, cond, _&&_, _||_}
 use Prim.Native.Nat.{ℕ, _+_, _*_, max}
 use lib.Dec.{leb, eqb}
@@ -10,6 +10,9 @@ use Rattle.fold.specs.Fold.{sumTo, every}
 use Rattle.layout.specs.declared.CardRow.{CardRow}
 use Rattle.layout.specs.declared.Row.{Row}
 use Rattle.layout.specs.View.{View, Settings}
+use Rattle.sides.specs.declared.Primary.{Primary}
+use Rattle.sides.specs.declared.Secondary.{Secondary}
+use Rattle.sides.specs.Sides.{inPrimary}
 
 -- a ≥ b
 abbrev pub atLeast : ℕ → ℕ → Bool
@@ -23,29 +26,36 @@ fed v i j = eqb (v .row j .feeder) (i + 1)
 abbrev pub eachFed : View → ℕ → (ℕ → Bool) → Bool
 eachFed v i ok = every (v .count) (λ j. not (fed v i j) || ok j)
 
+-- a number keyed at row r's relay, in primary; the primary pickup of row j
+abbrev pub primaryOf : Row → Secondary → Primary
+primaryOf r x = inPrimary (r .ratio) x
+
+abbrev pub pickupAt : View → Settings → ℕ → Primary
+pickupAt v k j = primaryOf (v .row j) (k j .pickup)
+
 -- a row's greatest load: work × volts
 abbrev pub loadOf : View → ℕ → ℕ
-loadOf v j = v .row j .work * v .row j .volts
+loadOf v j = v .row j .work .0 * v .row j .volts
 
 -- the sum of the loads of the rows that row i feeds, other than j
 abbrev pub othersLoad : View → ℕ → ℕ → ℕ
 othersLoad v i j = sumTo (v .count) (λ k. cond (fed v i k && not (eqb k j)) (loadOf v k) 0)
 
 -- P1, return after self-start: 10 × I × return ≥ 11 × selfstart × work
-unfoldable pub returnsAfterSelfStart : Row → ℕ → Bool
-returnsAfterSelfStart r I = atLeast (10 * I * r .returnfactor) (11 * r .selfstart * r .work)
+unfoldable pub returnsAfterSelfStart : Row → Primary → Bool
+returnsAfterSelfStart r I = atLeast (10 * I .0 * r .returnfactor) (11 * r .selfstart * r .work .0)
 
 -- P2, for a fed row j: 10 × I × U ≥ 11 × (pickup of j × volts of j + the sum, over the other fed rows, of work × volts)
-unfoldable pub clearOf : View → Settings → ℕ → ℕ → ℕ → Bool
-clearOf v k i j I = atLeast (10 * I * v .row i .volts) (11 * (k j .pickup * v .row j .volts + othersLoad v i j))
+unfoldable pub clearOf : View → Settings → ℕ → ℕ → Primary → Bool
+clearOf v k i j I = atLeast (10 * I .0 * v .row i .volts) (11 * (pickupAt v k j .0 * v .row j .volts + othersLoad v i j))
 
 -- P3, own zone: 10 × far ≥ 15 × I
-unfoldable pub seesOwnZone : Row → ℕ → Bool
-seesOwnZone r I = atLeast (10 * r .far) (15 * I)
+unfoldable pub seesOwnZone : Row → Primary → Bool
+seesOwnZone r I = atLeast (10 * r .far .0) (15 * I .0)
 
 -- P4, for a fed row f with backed 1: 10 × its far × its volts ≥ 12 × I × U
-unfoldable pub backsUp : Row → Row → ℕ → Bool
-backsUp r f I = not (eqb (f .backed) 1) || atLeast (10 * f .far * f .volts) (12 * I * r .volts)
+unfoldable pub backsUp : Row → Row → Primary → Bool
+backsUp r f I = not (eqb (f .backed) 1) || atLeast (10 * f .far .0 * f .volts) (12 * I .0 * r .volts)
 
 -- D1: the delay is between floor and ceiling, and at least 100 for a motor
 unfoldable pub withinDelays : Row → ℕ → Bool
@@ -64,9 +74,9 @@ unfoldable pub gradedAbove : Row → Row → CardRow → ℕ → Bool
 gradedAbove r f s t = atLeast t (s .delay + marginBetween (r .device) (f .device))
 
 -- cutoff, the bound on its pickup C: 1,000 × C ≥ factor × clear
-unfoldable pub staysClear : Row → ℕ → Bool
-staysClear r C = atLeast (1000 * C) (r .factor * r .clear)
+unfoldable pub staysClear : Row → Primary → Bool
+staysClear r C = atLeast (1000 * C .0) (r .factor * r .clear .0)
 
 -- cutoff, its sensitivity: 10 × near ≥ 12 × C for a line, 10 × near ≥ 20 × C for a transformer or motor
-unfoldable pub seesNear : Row → ℕ → Bool
-seesNear r C = atLeast (10 * r .near) (cond (eqb (r .kind) 1) 12 20 * C)
+unfoldable pub seesNear : Row → Primary → Bool
+seesNear r C = atLeast (10 * r .near .0) (cond (eqb (r .kind) 1) 12 20 * C .0)

@@ -13,20 +13,22 @@ use Rattle.layout.specs.View.{View, Settings}
 use Rattle.settle.specs.declared.Fed.{Fed}
 use Rattle.settle.specs.declared.Picked.{Picked}
 use Rattle.settle.specs.declared.Settled.{Settled}
-use Rattle.settle.specs.Conditions.{atLeast, fed, loadOf, returnsAfterSelfStart, withinDelays, marginBetween}
+use Rattle.sides.specs.declared.Primary.{Primary}
+use Rattle.sides.specs.Sides.{settingMost}
+use Rattle.settle.specs.Conditions.{atLeast, primaryOf, fed, loadOf, returnsAfterSelfStart, withinDelays, marginBetween}
 use Rattle.settle.specs.Settle.{firstUnbacked, leastPickup, picked, leastDelay, outcomeOf}
 
--- 1.2 times the greatest product of a current and volts that a list in range holds: 100,000,000 × 500,000
+-- 1.2 times the greatest product of a primary current, in fifths of a mA, and volts that a list in range holds: 500,000,000 × 500,000
 abbrev pub reach : ℕ
-reach = 60000000000000
+reach = 300000000000000
 
 -- what one fed row f with the settings s adds: by how much its pickup exceeds its own load, from `reach` on; how far its
 -- fault current stays below `reach`, where it is backed; the earliest delay of the row above it, whose device is d
 abbrev pub excess : Row → CardRow → ℕ
-excess f s = s .pickup * f .volts + (reach - f .work * f .volts)
+excess f s = primaryOf f (s .pickup) .0 * f .volts + (reach - f .work .0 * f .volts)
 
 abbrev pub shortfall : Row → ℕ
-shortfall f = cond (eqb (f .backed) 1) (reach - f .far * f .volts) 0
+shortfall f = cond (eqb (f .backed) 1) (reach - f .far .0 * f .volts) 0
 
 abbrev pub earliest : ℕ → Row → CardRow → ℕ
 earliest d f s = s .delay + marginBetween d (f .device)
@@ -34,7 +36,7 @@ earliest d f s = s .delay + marginBetween d (f .device)
 abbrev pub asked : ℕ → Row → CardRow → Fed
 asked d f s =
     record {
-      load = f .work * f .volts;
+      load = f .work .0 * f .volts;
       excess = excess f s;
       shortfall = shortfall f;
       earliest = earliest d f s;
@@ -51,18 +53,18 @@ gathered v k i =
     }
 
 -- P2 and P4 of all fed rows at once
-unfoldable pub clearOfAll : Row → Fed → ℕ → Bool
-clearOfAll r f I = atLeast (10 * I * r .volts) (11 * (f .excess + f .load - reach))
+unfoldable pub clearOfAll : Row → Fed → Primary → Bool
+clearOfAll r f I = atLeast (10 * I .0 * r .volts) (11 * (f .excess + f .load - reach))
 
-unfoldable pub backsUpAll : Row → Fed → ℕ → Bool
-backsUpAll r f I = atLeast (10 * (reach - f .shortfall)) (12 * I * r .volts)
+unfoldable pub backsUpAll : Row → Fed → Primary → Bool
+backsUpAll r f I = atLeast (10 * (reach - f .shortfall)) (12 * I .0 * r .volts)
 
 -- the first fed row for which pickup I fails P4: the fed rows are gone through only where it fails for one of them
-unfoldable pub unbackedBy : View → ℕ → Row → Fed → ℕ → Found
+unfoldable pub unbackedBy : View → ℕ → Row → Fed → Primary → Found
 unbackedBy v i r f I = cond (backsUpAll r f I) Nothing (firstUnbacked v i r I)
 
 -- P1 and P2 by the four numbers, and the pickup
-unfoldable pub lowerBy : Row → Fed → ℕ → Bool
+unfoldable pub lowerBy : Row → Fed → Primary → Bool
 lowerBy r f I = returnsAfterSelfStart r I && clearOfAll r f I
 
 unfoldable pub pickedBy : View → ℕ → Row → Fed → Picked
@@ -75,14 +77,19 @@ delayBy r f t = withinDelays r t && leb (f .earliest) t
 unfoldable pub settledBy : View → ℕ → Row → Fed → Settled
 settledBy v i r f = outcomeOf r (pickedBy v i r f) (leastDelay r (delayBy r f))
 
+-- the range of a primary current, in fifths of a mA, in which nothing overflows: 500,000 mA at the relay with the greatest ratio, 20,000 A
+-- to 1 A. A list in range has at most 500,000,000; a lent card can have this
+abbrev pub PrimaryBounded : Primary → Type 0
+PrimaryBounded I = I .0 ≤ 50000000000
+
 -- the range in which the four numbers cannot overflow
 pub record FedBounded (f : Fed) : Type 0 where
-  pub load-to : f .load ≤ 12800000000000000
-  pub excess-to : f .excess ≤ 110000000000000
+  pub load-to : f .load ≤ 64000000000000000
+  pub excess-to : f .excess ≤ 25300000000000000
   pub shortfall-to : f .shortfall ≤ reach
   pub earliest-to : f .earliest ≤ 100500
 
--- the range of a card row's settings in which they do not
-pub record CardBounded (s : CardRow) : Type 0 where
-  pub pickup-to : s .pickup ≤ 100000000
+-- the range of a card row's settings, for row r, in which they do not
+pub record CardBounded (r : Row) (s : CardRow) : Type 0 where
+  pub pickup-to : s .pickup .0 ≤ settingMost (r .ratio .primary)
   pub delay-to : s .delay ≤ 100000

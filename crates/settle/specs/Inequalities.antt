@@ -1,5 +1,6 @@
--- [01 §3, §4], [02 §2, §5] The conditions as a reader of the section writes them, by inequalities: of one row, the rows that it feeds being at the
--- settings k. The tests of Conditions.antt and the settling of Settle.antt are proved to say exactly this, and the demands are
+-- [01 §3, §4], [02 §1, §2, §5] The conditions as a reader of the section writes them, by inequalities: of one row, the rows that it feeds being
+-- at the settings k. Available is what the relay offers on its own side; conditions are on primary currents, in fifths of a mA on both
+-- sides, and "lower" is lower in primary. The tests of Conditions.antt and the settling of Settle.antt are proved to say exactly this, and the demands are
 -- stated with it. Rows are counted from 0: row i has number i + 1. Definitions only.
 use mathlib.Core.Path.{_≡_}
 use Prim.Native.Nat.{ℕ, _+_, _*_, _≤_, _<_}
@@ -13,31 +14,34 @@ use Rattle.settle.specs.declared.Cutoff.{Cutoff}
 use Rattle.settle.specs.declared.Cutoff.the-variants.{Fitted, NotFitted}
 use Rattle.settle.specs.declared.Outcome.{Outcome}
 use Rattle.settle.specs.declared.Settled.the-variants.{Set}
-use Rattle.settle.specs.Conditions.{othersLoad, margin}
+use Rattle.sides.specs.declared.Primary.{Primary}
+use Rattle.sides.specs.declared.Secondary.{Secondary}
+use Rattle.settle.specs.Conditions.{primaryOf, pickupAt, othersLoad, margin}
 use Rattle.settle.specs.Settle.{cutoffOf, printed, shown, settled}
 
--- "available pickups: low, low + step, .. up to high": x is one of them
-abbrev pub AvailableOn : Row → ℕ → Type 0
-AvailableOn r x = Available (r .low) (r .high) (r .step) x
+-- "available pickups: low, low + step, .. up to high", steps of secondary mA where the row has a ratio: x is one of them
+abbrev pub AvailableOn : Row → Secondary → Type 0
+AvailableOn r x = Available (r .low .0) (r .high .0) (r .step .0) (x .0)
 
 -- "fed rows are those it feeds directly": row i feeds row j
 abbrev pub Feeding : View → ℕ → ℕ → Type 0
 Feeding v i j = v .row j .feeder ≡ i + 1
 
 -- pickup I of row i meets P1 and P2, the bounds from below
-pub record LowerMet (v : View) (k : Settings) (i I : ℕ) : Type 0 where
-  pub P1 : 11 * v .row i .selfstart * v .row i .work ≤ 10 * I * v .row i .returnfactor
-  pub P2 : (j : ℕ) → j < v .count → Feeding v i j → 11 * (k j .pickup * v .row j .volts + othersLoad v i j) ≤ 10 * I * v .row i .volts
+pub record LowerMet (v : View) (k : Settings) (i : ℕ) (I : Primary) : Type 0 where
+  pub P1 : 11 * v .row i .selfstart * v .row i .work .0 ≤ 10 * I .0 * v .row i .returnfactor
+  pub P2 :
+      (j : ℕ) → j < v .count → Feeding v i j → 11 * (pickupAt v k j .0 * v .row j .volts + othersLoad v i j) ≤ 10 * I .0 * v .row i .volts
 
 -- pickup I of row i meets P3; it meets P4 for the fed row j
-abbrev pub SeesOwnZone : View → ℕ → ℕ → Type 0
-SeesOwnZone v i I = 15 * I ≤ 10 * v .row i .far
+abbrev pub SeesOwnZone : View → ℕ → Primary → Type 0
+SeesOwnZone v i I = 15 * I .0 ≤ 10 * v .row i .far .0
 
-abbrev pub BacksUp : View → ℕ → ℕ → ℕ → Type 0
-BacksUp v i j I = v .row j .backed ≡ 1 → 12 * I * v .row i .volts ≤ 10 * v .row j .far * v .row j .volts
+abbrev pub BacksUp : View → ℕ → ℕ → Primary → Type 0
+BacksUp v i j I = v .row j .backed ≡ 1 → 12 * I .0 * v .row i .volts ≤ 10 * v .row j .far .0 * v .row j .volts
 
 -- pickup I of row i meets P1 to P4
-pub record PickupMet (v : View) (k : Settings) (i I : ℕ) : Type 0 where
+pub record PickupMet (v : View) (k : Settings) (i : ℕ) (I : Primary) : Type 0 where
   pub P1-P2 : LowerMet v k i I
   pub P3 : SeesOwnZone v i I
   pub P4 : (j : ℕ) → j < v .count → Feeding v i j → BacksUp v i j I
@@ -53,43 +57,44 @@ pub record DelayMet (v : View) (k : Settings) (i t : ℕ) : Type 0 where
   pub D2 : (j : ℕ) → j < v .count → Feeding v i j → GradedAbove (v .row i) (v .row j) (k j) t
 
 -- "its pickup is the least available C with 1,000 × C ≥ factor × clear"
-pub record CutoffPickup (r : Row) (C : ℕ) : Type 0 where
+pub record CutoffPickup (r : Row) (C : Secondary) : Type 0 where
   pub available : AvailableOn r C
-  pub stays-clear : r .factor * r .clear ≤ 1000 * C
-  pub least : (x : ℕ) → AvailableOn r x → r .factor * r .clear ≤ 1000 * x → C ≤ x
+  pub stays-clear : r .factor * r .clear .0 ≤ 1000 * primaryOf r C .0
+  pub least : (x : Secondary) → AvailableOn r x → r .factor * r .clear .0 ≤ 1000 * primaryOf r x .0 → primaryOf r C .0 ≤ primaryOf r x .0
 
 -- "10 × near ≥ 12 × C for a line, 10 × near ≥ 20 × C for a transformer or motor"
-pub record SeesNear (r : Row) (C : ℕ) : Type 0 where
-  pub line : r .kind ≡ 1 → 12 * C ≤ 10 * r .near
-  pub other : (r .kind ≡ 1 → ⊥) → 20 * C ≤ 10 * r .near
+pub record SeesNear (r : Row) (C : Primary) : Type 0 where
+  pub line : r .kind ≡ 1 → 12 * C .0 ≤ 10 * r .near .0
+  pub other : (r .kind ≡ 1 → ⊥) → 20 * C .0 ≤ 10 * r .near .0
 
 -- "fitted exactly when such C exists and" it sees its near fault
 pub data CutoffIs (r : Row) : Cutoff → Type 0 where
-  fitted : (C : ℕ) → CutoffPickup r C → SeesNear r C → CutoffIs r (Fitted C)
-  not-fitted : ((C : ℕ) → CutoffPickup r C → SeesNear r C → ⊥) → CutoffIs r NotFitted
+  fitted : (C : Secondary) → CutoffPickup r C → SeesNear r (primaryOf r C) → CutoffIs r (Fitted C)
+  not-fitted : ((C : Secondary) → CutoffPickup r C → SeesNear r (primaryOf r C) → ⊥) → CutoffIs r NotFitted
 
 -- some available pickup of row i meets P1 to P4; none does; no delay meets D1 and D2
 abbrev pub SomePickup : View → Settings → ℕ → Type 0
-SomePickup v k i = (I : ℕ) × AvailableOn (v .row i) I × PickupMet v k i I
+SomePickup v k i = (x : Secondary) × AvailableOn (v .row i) x × PickupMet v k i (primaryOf (v .row i) x)
 
 abbrev pub NoPickup : View → Settings → ℕ → Type 0
-NoPickup v k i = (I : ℕ) → AvailableOn (v .row i) I → PickupMet v k i I → ⊥
+NoPickup v k i = (x : Secondary) → AvailableOn (v .row i) x → PickupMet v k i (primaryOf (v .row i) x) → ⊥
 
 abbrev pub NoDelay : View → Settings → ℕ → Type 0
 NoDelay v k i = (t : ℕ) → DelayMet v k i t → ⊥
 
--- [02 §2] I is the candidate of row i: "its least available pickup meeting P1 and P2"
-pub record Candidate (v : View) (k : Settings) (i I : ℕ) : Type 0 where
-  pub available : AvailableOn (v .row i) I
-  pub lower-met : LowerMet v k i I
-  pub least : (x : ℕ) → AvailableOn (v .row i) x → LowerMet v k i x → I ≤ x
+-- [02 §2] x is the candidate of row i: "its least available pickup meeting P1 and P2"
+pub record Candidate (v : View) (k : Settings) (i : ℕ) (x : Secondary) : Type 0 where
+  pub available : AvailableOn (v .row i) x
+  pub lower-met : LowerMet v k i (primaryOf (v .row i) x)
+  pub least :
+      (y : Secondary) → AvailableOn (v .row i) y → LowerMet v k i (primaryOf (v .row i) y) → primaryOf (v .row i) x .0 ≤ primaryOf (v .row i) y .0
 
 -- "if there is none": no available pickup of row i meets P1 and P2
 abbrev pub NoCandidate : View → Settings → ℕ → Type 0
-NoCandidate v k i = (I : ℕ) → AvailableOn (v .row i) I → LowerMet v k i I → ⊥
+NoCandidate v k i = (x : Secondary) → AvailableOn (v .row i) x → LowerMet v k i (primaryOf (v .row i) x) → ⊥
 
 -- "the fed rows ascending": row j is the first of them for which pickup I of row i fails P4
-pub record FirstUnbacked (v : View) (i I j : ℕ) : Type 0 where
+pub record FirstUnbacked (v : View) (i : ℕ) (I : Primary) (j : ℕ) : Type 0 where
   pub is-row : j < v .count
   pub feeding : Feeding v i j
   pub fails : BacksUp v i j I → ⊥
@@ -99,14 +104,17 @@ pub record FirstUnbacked (v : View) (i I j : ℕ) : Type 0 where
 -- and fails P4 for a fed row, the first of which is named by its number
 pub data CauseIs (v : View) (k : Settings) (i : ℕ) : Cause → Type 0 where
   RANGE : NoCandidate v k i → CauseIs v k i Range
-  OWN-ZONE : (I : ℕ) → Candidate v k i I → (SeesOwnZone v i I → ⊥) → CauseIs v k i OwnZone
-  BACKUP : (I j : ℕ) → Candidate v k i I → SeesOwnZone v i I → FirstUnbacked v i I j → CauseIs v k i (Backup (j + 1))
+  OWN-ZONE : (x : Secondary) → Candidate v k i x → (SeesOwnZone v i (primaryOf (v .row i) x) → ⊥) → CauseIs v k i OwnZone
+  BACKUP :
+      (x : Secondary) (j : ℕ) → Candidate v k i x → SeesOwnZone v i (primaryOf (v .row i) x) → FirstUnbacked v i (primaryOf (v .row i) x) j →
+      CauseIs v k i (Backup (j + 1))
 
--- row i stands at its least settings: none that fits it has a lower pickup, and none a shorter delay
+-- row i stands at its least settings: none that fits it has a pickup lower in primary, and none a shorter delay
 pub record LeastRow (v : View) (k : Settings) (i : ℕ) : Type 0 where
   pub available : AvailableOn (v .row i) (k i .pickup)
-  pub pickup : PickupMet v k i (k i .pickup)
-  pub no-lower : (I : ℕ) → AvailableOn (v .row i) I → PickupMet v k i I → k i .pickup ≤ I
+  pub pickup : PickupMet v k i (pickupAt v k i)
+  pub no-lower :
+      (x : Secondary) → AvailableOn (v .row i) x → PickupMet v k i (primaryOf (v .row i) x) → pickupAt v k i .0 ≤ primaryOf (v .row i) x .0
   pub delay : DelayMet v k i (k i .delay)
   pub no-shorter : (t : ℕ) → DelayMet v k i t → k i .delay ≤ t
   pub cutoff : k i .cutoff ≡ printed (cutoffOf (v .row i))

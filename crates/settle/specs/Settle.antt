@@ -1,4 +1,4 @@
--- [01 §3, §4], [02 §2] The least settings of one row, the rows below at the settings k, or why there are none. Definitions only.
+-- [01 §3, §4], [02 §1, §2] The least settings of one row, the rows below at the settings k, or why there are none. Definitions only.
 use mathlib.Core.Bool.{Bool, not, cond, _&&_}
 use Prim.Native.Nat.{ℕ, _+_}
 use Rattle.answers.specs.declared.Cause.the-variants.{Range, OwnZone, Backup}
@@ -17,43 +17,46 @@ use Rattle.settle.specs.declared.Picked.{Picked}
 use Rattle.settle.specs.declared.Picked.the-variants.{Fits, Unfit}
 use Rattle.settle.specs.declared.Settled.{Settled}
 use Rattle.settle.specs.declared.Settled.the-variants.{Set, Unset}
-use Rattle.settle.specs.Conditions.{fed, eachFed, returnsAfterSelfStart, clearOf, seesOwnZone, backsUp, withinDelays, gradedAbove, staysClear, seesNear}
+use Rattle.sides.specs.declared.Primary.{Primary}
+use Rattle.sides.specs.declared.Secondary.{Secondary}
+use Rattle.sides.specs.Sides.{keyed}
+use Rattle.settle.specs.Conditions.{primaryOf, fed, eachFed, returnsAfterSelfStart, clearOf, seesOwnZone, backsUp, withinDelays, gradedAbove, staysClear, seesNear}
 
 -- pickup I of row i meets P1 and P2, the bounds from below
-unfoldable pub meetsLower : View → Settings → ℕ → ℕ → Bool
+unfoldable pub meetsLower : View → Settings → ℕ → Primary → Bool
 meetsLower v k i I = returnsAfterSelfStart (v .row i) I && eachFed v i (λ j. clearOf v k i j I)
 
 -- row i, by its fields r, feeds row j, and pickup I fails P4 for it; the first such row, ascending
-unfoldable pub unbacked : View → ℕ → Row → ℕ → ℕ → Bool
+unfoldable pub unbacked : View → ℕ → Row → Primary → ℕ → Bool
 unbacked v i r I j = fed v i j && not (backsUp r (v .row j) I)
 
-unfoldable pub firstUnbacked : View → ℕ → Row → ℕ → Found
+unfoldable pub firstUnbacked : View → ℕ → Row → Primary → Found
 firstUnbacked v i r I = first (unbacked v i r I) 0 (v .count)
 
 -- delay t of row i meets D1 and D2
 unfoldable pub meetsDelay : View → Settings → ℕ → ℕ → Bool
 meetsDelay v k i t = withinDelays (v .row i) t && eachFed v i (λ j. gradedAbove (v .row i) (v .row j) (k j) t)
 
--- the least available pickup that passes
-abbrev pub leastPickup : Row → (ℕ → Bool) → Found
-leastPickup r ok = leastOn (r .low) (r .high) (r .step) ok
+-- the least available pickup whose primary current passes, as it is keyed
+abbrev pub leastPickup : Row → (Primary → Bool) → Found
+leastPickup r ok = leastOn (r .low .0) (r .high .0) (r .step .0) (λ x. ok (primaryOf r (keyed x)))
 
 -- [02 §2] the candidate of row i: "its least available pickup meeting P1 and P2"
 unfoldable pub candidate : View → Settings → ℕ → Found
 candidate v k i = leastPickup (v .row i) (meetsLower v k i)
 
--- "otherwise test the own zone, then the fed rows ascending": candidate I, the first fed row for which it fails P4 being u
-unfoldable pub byBackup : ℕ → Found → Picked
-byBackup I Nothing = Fits I
-byBackup I (At j) = Unfit (Backup (j + 1))
+-- "otherwise test the own zone, then the fed rows ascending": candidate x, the first fed row for which it fails P4 being u
+unfoldable pub byBackup : Secondary → Found → Picked
+byBackup x Nothing = Fits x
+byBackup x (At j) = Unfit (Backup (j + 1))
 
-unfoldable pub judged : Row → ℕ → Found → Picked
-judged r I u = cond (seesOwnZone r I) (byBackup I u) (Unfit OwnZone)
+unfoldable pub judged : Row → Secondary → Found → Picked
+judged r x u = cond (seesOwnZone r (primaryOf r x)) (byBackup x u) (Unfit OwnZone)
 
 -- "if there is none it is RANGE"; `failed` gives, for a pickup, the first fed row for which it fails P4
-unfoldable pub picked : Row → Found → (ℕ → Found) → Picked
+unfoldable pub picked : Row → Found → (Primary → Found) → Picked
 picked r Nothing failed = Unfit Range
-picked r (At I) failed = judged r I (failed I)
+picked r (At x) failed = judged r (keyed x) (failed (primaryOf r (keyed x)))
 
 -- the pickup of row i, or why it has none
 abbrev pub pickupOf : View → Settings → ℕ → Picked
@@ -65,16 +68,16 @@ leastDelay r ok = leastOn (r .floor) (r .ceiling) 1 ok
 
 -- the cutoff is fitted exactly when such C exists and sees its near fault
 unfoldable pub fitting : Row → Found → Cutoff
-fitting r (At C) = cond (seesNear r C) (Fitted C) NotFitted
+fitting r (At C) = cond (seesNear r (primaryOf r (keyed C))) (Fitted (keyed C)) NotFitted
 fitting r Nothing = NotFitted
 
 unfoldable pub cutoffOf : Row → Cutoff
 cutoffOf r = fitting r (leastPickup r (staysClear r))
 
 -- not fitted is printed as 0
-unfoldable pub printed : Cutoff → ℕ
+unfoldable pub printed : Cutoff → Secondary
 printed (Fitted C) = C
-printed NotFitted = 0
+printed NotFitted = keyed 0
 
 -- the card row that shows an outcome
 unfoldable pub shown : Outcome → CardRow
@@ -83,8 +86,8 @@ shown o = record { pickup = o .pickup; delay = o .delay; cutoff = printed (o .cu
 -- a row's outcome, the cause that no pickup fits before DELAY
 unfoldable pub outcomeOf : Row → Picked → Found → Settled
 outcomeOf r (Unfit why) delay = Unset (Pickup why)
-outcomeOf r (Fits I) Nothing = Unset Delay
-outcomeOf r (Fits I) (At t) = Set (record { pickup = I; delay = t; cutoff = cutoffOf r })
+outcomeOf r (Fits x) Nothing = Unset Delay
+outcomeOf r (Fits x) (At t) = Set (record { pickup = x; delay = t; cutoff = cutoffOf r })
 
 -- the least settings of row i, or why it has none
 unfoldable pub settled : View → Settings → ℕ → Settled

@@ -10,33 +10,38 @@ use layout::CardRow;
 use layout::FIELDS;
 use layout::Row;
 use layout::row_at;
+use sides::Primary;
+use sides::Secondary;
+use sides::in_primary;
+use sides::scale;
 ghost use mathlib.Core.Path.{_≡_};
 ghost use Prim.Native.Nat.{ℕ, _-_, _≤_, _<_};
 ghost use lib.Dec.{leb};
 ghost use Rattle.layout.specs.List.{rows};
 ghost use Rattle.layout.specs.Range.{Bounded};
 ghost use Rattle.layout.specs.View.{viewOf};
-ghost use Rattle.settle.specs.Conditions.{seesOwnZone, backsUp, seesNear, margin, marginBetween};
-ghost use Rattle.settle.specs.Fed.{lowerBy, backsUpAll, unbackedBy, pickedBy, delayBy, settledBy, shortfall, asked, FedBounded, CardBounded};
+ghost use Rattle.sides.specs.Sides.{keyed, settingMost};
+ghost use Rattle.settle.specs.Conditions.{primaryOf, seesOwnZone, backsUp, staysClear, seesNear, margin, marginBetween};
+ghost use Rattle.settle.specs.Fed.{lowerBy, backsUpAll, unbackedBy, pickedBy, delayBy, settledBy, shortfall, asked, PrimaryBounded, FedBounded, CardBounded};
 ghost use Rattle.settle.specs.Ready.{Listed};
 ghost use Rattle.settle.specs.Settle.{unbacked, firstUnbacked, judged, leastDelay, cutoffOf, printed, shown};
 
 // The cutoff is fitted at a stated pickup or not fitted [01 §3].
 pub enum Cutoff {
-    Fitted(u64),
+    Fitted(Secondary),
     NotFitted,
 }
 
 // A row's outcome.
 pub struct Outcome {
-    pub pickup: u64,
+    pub pickup: Secondary,
     pub delay: u64,
     pub cutoff: Cutoff,
 }
 
 // A row's pickup, or why no available one fits.
 pub enum Picked {
-    Fits(u64),
+    Fits(Secondary),
     Unfit(Cause),
 }
 
@@ -54,8 +59,8 @@ pub struct Fed {
     pub earliest: u64,
 }
 
-// 1.2 times the greatest product of a current and volts.
-pub const REACH: u64 = 60000000000000;
+// 1.2 times the greatest product of a primary current, in fifths of a mA, and volts.
+pub const REACH: u64 = 300000000000000;
 
 fn over(a: u64, b: u64) -> u64
     ensures { λ r. ⌜ r ≡ a - b ⌝ }
@@ -63,47 +68,48 @@ fn over(a: u64, b: u64) -> u64
     if a <= b { 0 } else { a - b }
 }
 
-// The least pickup that P1 and P2 allow, available or not.
+// The least pickup, as it is keyed, that P1 and P2 allow, available or not.
 fn pickup_from(r: Row, f: Fed) -> u64
     requires { ⌜ Bounded r × FedBounded f ⌝ }
-    ensures { λ b. ⌜ ((x : ℕ) → leb b x ≡ lowerBy r f x) ⌝ }
+    ensures { λ b. ⌜ ((x : ℕ) → leb b x ≡ lowerBy r f (primaryOf r (keyed x))) ⌝ }
 {
-    let returns = ceil_div(11 * r.selfstart * r.work, 10 * r.returnfactor);
+    let k = scale(r.ratio);
+    let returns = ceil_div(11 * r.selfstart * r.work.0, 10 * r.returnfactor * k);
     let asked = over(f.excess + f.load, REACH);
-    let clears = ceil_div(11 * asked, 10 * r.volts);
+    let clears = ceil_div(11 * asked, 10 * r.volts * k);
     greater(returns, clears)
 }
 
 // P3 of a pickup.
-fn sees_own_zone(r: Row, x: u64) -> bool
-    requires { ⌜ Bounded r × (x ≤ 100000000) ⌝ }
+fn sees_own_zone(r: Row, x: Primary) -> bool
+    requires { ⌜ Bounded r × PrimaryBounded x ⌝ }
     ensures { λ b. ⌜ b ≡ seesOwnZone r x ⌝ }
 {
-    15 * x <= 10 * r.far
+    15 * x.0 <= 10 * r.far.0
 }
 
 // P4 of a pickup, for all fed rows at once.
-fn backs_up_all(r: Row, f: Fed, x: u64) -> bool
-    requires { ⌜ Bounded r × FedBounded f × (x ≤ 100000000) ⌝ }
+fn backs_up_all(r: Row, f: Fed, x: Primary) -> bool
+    requires { ⌜ Bounded r × FedBounded f × PrimaryBounded x ⌝ }
     ensures { λ b. ⌜ b ≡ backsUpAll r f x ⌝ }
 {
-    12 * x * r.volts <= 10 * (REACH - f.shortfall)
+    12 * x.0 * r.volts <= 10 * (REACH - f.shortfall)
 }
 
 // P4 of a pickup, for one fed row.
-fn backs_up(r: Row, f: Row, x: u64) -> bool
-    requires { ⌜ Bounded r × Bounded f × (x ≤ 100000000) ⌝ }
+fn backs_up(r: Row, f: Row, x: Primary) -> bool
+    requires { ⌜ Bounded r × Bounded f × PrimaryBounded x ⌝ }
     ensures { λ b. ⌜ b ≡ backsUp r f x ⌝ }
 {
     if f.backed != 1 {
         return true;
     }
-    12 * x * r.volts <= 10 * f.far * f.volts
+    12 * x.0 * r.volts <= 10 * f.far.0 * f.volts
 }
 
 // Row j is fed by row i, whose fields are r, and pickup x of that row fails P4 for it.
-fn is_unbacked(list: &[u64], i: usize, r: Row, x: u64, j: usize) -> bool
-    requires { ⌜ Listed (now list) i r × (x ≤ 100000000) × (j < rows (now list)) ⌝ }
+fn is_unbacked(list: &[u64], i: usize, r: Row, x: Primary, j: usize) -> bool
+    requires { ⌜ Listed (now list) i r × PrimaryBounded x × (j < rows (now list)) ⌝ }
     ensures { λ b. ⌜ b ≡ unbacked (viewOf (now (list .entry))) i r x j ⌝ }
 {
     let f = row_at(list, j);
@@ -113,8 +119,8 @@ fn is_unbacked(list: &[u64], i: usize, r: Row, x: u64, j: usize) -> bool
     !backs_up(r, f, x)
 }
 
-fn first_unbacked(list: &[u64], i: usize, r: Row, x: u64) -> Found
-    requires { ⌜ Listed (now list) i r × (x ≤ 100000000) ⌝ }
+fn first_unbacked(list: &[u64], i: usize, r: Row, x: Primary) -> Found
+    requires { ⌜ Listed (now list) i r × PrimaryBounded x ⌝ }
     ensures { λ a. ⌜ a ≡ firstUnbacked (viewOf (now (list .entry))) i r x ⌝ }
 {
     let n = list.len() / FIELDS;
@@ -130,17 +136,18 @@ fn first_unbacked(list: &[u64], i: usize, r: Row, x: u64) -> Found
 
 // P3, then P4, of a pickup that meets P1 and P2. The fed rows are gone through only where their numbers say that P4 fails for one of
 // them, and then one is found: the row is refused.
-fn judge(list: &[u64], i: usize, r: Row, f: Fed, x: u64) -> Picked
-    requires { ⌜ Listed (now list) i r × FedBounded f × (x ≤ 100000000) ⌝ }
-    ensures { λ p. ⌜ p ≡ judged r x (unbackedBy (viewOf (now (list .entry))) i r f x) ⌝ }
+fn judge(list: &[u64], i: usize, r: Row, f: Fed, x: Secondary) -> Picked
+    requires { ⌜ Listed (now list) i r × FedBounded f × (x .0 ≤ settingMost (r .ratio .primary)) ⌝ }
+    ensures { λ p. ⌜ p ≡ judged r x (unbackedBy (viewOf (now (list .entry))) i r f (primaryOf r x)) ⌝ }
 {
-    if !sees_own_zone(r, x) {
+    let pickup = in_primary(r.ratio, x);
+    if !sees_own_zone(r, pickup) {
         return Picked::Unfit(Cause::OwnZone);
     }
-    if backs_up_all(r, f, x) {
+    if backs_up_all(r, f, pickup) {
         return Picked::Fits(x);
     }
-    match first_unbacked(list, i, r, x) {
+    match first_unbacked(list, i, r, pickup) {
         Found::At(j) => Picked::Unfit(Cause::Backup(j + 1)),
         Found::Nothing => Picked::Fits(x),
     }
@@ -151,9 +158,9 @@ fn pick(list: &[u64], i: usize, r: Row, f: Fed) -> Picked
     requires { ⌜ Listed (now list) i r × FedBounded f ⌝ }
     ensures { λ p. ⌜ p ≡ pickedBy (viewOf (now (list .entry))) i r f ⌝ }
 {
-    match least_on(r.low, r.high, r.step, pickup_from(r, f)) {
+    match least_on(r.low.0, r.high.0, r.step.0, pickup_from(r, f)) {
         Found::Nothing => Picked::Unfit(Cause::Range),
-        Found::At(x) => judge(list, i, r, f, x),
+        Found::At(x) => judge(list, i, r, f, Secondary(x)),
     }
 }
 
@@ -165,21 +172,30 @@ fn least_delay(r: Row, f: Fed) -> Found
 }
 
 // A cutoff's sensitivity at its pickup.
-fn sees_near(r: Row, x: u64) -> bool
-    requires { ⌜ Bounded r × (x ≤ 100000000) ⌝ }
+fn sees_near(r: Row, x: Primary) -> bool
+    requires { ⌜ Bounded r × PrimaryBounded x ⌝ }
     ensures { λ b. ⌜ b ≡ seesNear r x ⌝ }
 {
     let factor = if r.kind == 1 { 12 } else { 20 };
-    factor * x <= 10 * r.near
+    factor * x.0 <= 10 * r.near.0
+}
+
+// The least cutoff pickup, as it is keyed, that stays clear, available or not.
+fn cutoff_from(r: Row) -> u64
+    requires { ⌜ Bounded r ⌝ }
+    ensures { λ b. ⌜ ((x : ℕ) → leb b x ≡ staysClear r (primaryOf r (keyed x))) ⌝ }
+{
+    let k = scale(r.ratio);
+    ceil_div(r.factor * r.clear.0, 1000 * k)
 }
 
 fn cutoff_at(r: Row) -> Cutoff
     requires { ⌜ Bounded r ⌝ }
     ensures { λ c. ⌜ c ≡ cutoffOf r ⌝ }
 {
-    match least_on(r.low, r.high, r.step, ceil_div(r.factor * r.clear, 1000)) {
-        Found::At(x) => if sees_near(r, x) {
-            Cutoff::Fitted(x)
+    match least_on(r.low.0, r.high.0, r.step.0, cutoff_from(r)) {
+        Found::At(x) => if sees_near(r, in_primary(r.ratio, Secondary(x))) {
+            Cutoff::Fitted(Secondary(x))
         } else {
             Cutoff::NotFitted
         },
@@ -206,12 +222,12 @@ pub fn settle(list: &[u64], i: usize, r: Row, f: Fed) -> Settled
 }
 
 // The number that the card shows for a cutoff.
-fn printed_cutoff(c: Cutoff) -> u64
+fn printed_cutoff(c: Cutoff) -> Secondary
     ensures { λ r. ⌜ r ≡ printed c ⌝ }
 {
     match c {
         Cutoff::Fitted(x) => x,
-        Cutoff::NotFitted => 0,
+        Cutoff::NotFitted => Secondary(0),
     }
 }
 
@@ -219,9 +235,10 @@ fn printed_cutoff(c: Cutoff) -> u64
 pub fn card_row(o: Outcome) -> CardRow
     ensures { λ k. ⌜ k ≡ shown o ⌝ }
 {
+    let pickup = o.pickup;
     let cutoff = o.cutoff;
     CardRow {
-        pickup: o.pickup,
+        pickup,
         delay: o.delay,
         cutoff: printed_cutoff(cutoff),
     }
@@ -249,7 +266,7 @@ fn shortfall_of(r: Row) -> u64
     ensures { λ x. ⌜ x ≡ shortfall r ⌝ }
 {
     if r.backed == 1 {
-        REACH - r.far * r.volts
+        REACH - r.far.0 * r.volts
     } else {
         0
     }
@@ -257,11 +274,12 @@ fn shortfall_of(r: Row) -> u64
 
 // What a settled row asks of the row that feeds it, whose device is d.
 pub fn asks(d: u64, f: Row, s: CardRow) -> Fed
-    requires { ⌜ Bounded f × CardBounded s ⌝ }
+    requires { ⌜ Bounded f × CardBounded f s ⌝ }
     ensures { λ a. ⌜ a ≡ asked d f s ⌝ }
 {
-    let load = f.work * f.volts;
-    let excess = s.pickup * f.volts + (REACH - load);
+    let load = f.work.0 * f.volts;
+    let pickup = in_primary(f.ratio, s.pickup);
+    let excess = pickup.0 * f.volts + (REACH - load);
     let shortfall = shortfall_of(f);
     let earliest = s.delay + margin_between(d, f.device);
     Fed {

@@ -6,7 +6,7 @@ use Rattle.layout.proofs.same_card_row.Tie as tie
 returns : tie.Need-returns
 returns c =
     let start = c .before .before .before in
-    other-card-row (start .args .a) (start .args .b) (λ e. c .if1 .taken (λ t. e t .pickup))
+    other-card-row (start .args .a) (start .args .b) (λ e. c .if1 .taken (λ t. e t .pickup .0))
 
 returns-2 : tie.Need-returns-2
 returns-2 c =

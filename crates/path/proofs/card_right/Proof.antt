@@ -1,65 +1,51 @@
--- `card_right` tests one card row against CARD's bounds: the columns that the loop has passed are right.
-use native.Mathlib.Omega.{arith}
-use borrow.Author.Tests.{not-true, not-false}
-use mathlib.Core.Path.{ap}
-use Prim.Native.Nat.{_-_}
-use lib.ListN.{length}
-use Rattle.layout.specs.Counts.{columnCount}
-use Rattle.path.proofs.CardTestLaws.{Righted, righted-none, righted-all, righted-more, righted-fails}
+-- `card_right` judges a card row by its own table: the replaced row's and that of a row without a ratio, or that of one with a ratio.
+use borrow.Author.Needs.{needs}
+use mathlib.Core.Path.{_≡_, sym, _∙_}
+use Prim.Native.Nat.{ℕ}
+use Rattle.path.proofs.CardTestLaws.{lent-replaced, lent-primary, lent-secondary, judged-by}
 use Rattle.path.proofs.card_right.Statement.{statement}
 use Rattle.path.proofs.card_right.Tie as tie
 
-abbrev Inv-loop : tie.InvT-loop
-Inv-loop card table j k₀ k = Righted card j k
+within-table-requires : tie.Need-within-table-requires
+within-table-requires c κs = search needs
 
-abbrev μ-loop : tie.MeasureT-loop
-μ-loop card table j k₀ k = columnCount - k
-
-loop-holds : tie.Need-loop-holds Inv-loop μ-loop
-loop-holds c = righted-none _ _
-
-column-at-requires : tie.Need-column-at-requires Inv-loop μ-loop
-column-at-requires c κs = omega (arith, c .before .before .before .before .pre .0)
-
-in-bounds-requires : tie.Need-in-bounds-requires Inv-loop μ-loop
-in-bounds-requires c κs =
-    let start = c .before .before .before .before .before in
-    omega (arith, c .before .loop-test .taken, ap length (start .pre .1))
-
-returns : tie.Need-returns Inv-loop μ-loop
+returns : tie.Need-returns
 returns c =
-    let test = c .before .before .before in
-    let start = test .before .before .before .before in
-    righted-fails _ _ _ _ (c .before .before .column-at .ensures) _ (start .pre .1) _ (c .before .in-bounds .ensures) (test .loop-test .taken)
-    (not-true _ (c .if1 .taken))
+    let replaced = c .before in
+    let start = replaced .before .before .before .before .before in
+    judged-by _ _ _ _ _ _ (start .pre .plain-is) (lent-replaced _ _ _ (replaced .if1 .taken)) _ (c .within-table .ensures)
 
-add-k : tie.Need-add-k Inv-loop μ-loop
-add-k c = omega arith
+field-at-requires : tie.Need-field-at-requires
+field-at-requires c κs = search needs
 
-loop-less : tie.Need-loop-less Inv-loop μ-loop
-loop-less c = omega arith
+within-table-requires-2 : tie.Need-within-table-requires-2
+within-table-requires-2 c κs = search needs
 
-loop-again : tie.Need-loop-again Inv-loop μ-loop
-loop-again c =
-    let test = c .before .before .before in
-    let start = test .before .before .before .before in
-    righted-more _ _ _ _ (c .before .before .column-at .ensures) _ (start .pre .1) _ (c .before .in-bounds .ensures) (test .before .loop .inv)
-    (test .loop-test .taken) (not-false _ (c .if1 .left))
+returns-2 : tie.Need-returns-2
+returns-2 c =
+    let read = c .before .before in
+    let start = read .before .before .before .before .before .before in
+    judged-by _ _ _ _ _ _ (start .pre .plain-is)
+    (lent-primary _ _ _ (read .before .if1 .left) (sym (read .field-at .ensures) ∙ c .before .if2 .taken)) _ (c .within-table2 .ensures)
 
-returns-2 : tie.Need-returns-2 Inv-loop μ-loop
-returns-2 c = righted-all _ _ (c .before .loop .inv) (c .loop-test .left)
+within-table-requires-3 : tie.Need-within-table-requires-3
+within-table-requires-3 c κs = search needs
+
+returns-3 : tie.Need-returns-3
+returns-3 c =
+    let read = c .before .before in
+    let start = read .before .before .before .before .before .before in
+    judged-by _ _ _ _ _ _ (start .pre .keyed-is)
+    (lent-secondary _ _ _ (read .before .if1 .left) (λ z. c .before .if2 .left (read .field-at .ensures ∙ z))) _ (c .within-table3 .ensures)
 
 pub card-right-spec : {M : Type 1} → statement M
 card-right-spec =
     tie.close
     (tie.spec
-    Inv-loop
-    μ-loop
-    loop-holds
-    column-at-requires
-    in-bounds-requires
+    within-table-requires
     returns
-    add-k
-    loop-less
-    loop-again
-    returns-2)
+    field-at-requires
+    within-table-requires-2
+    returns-2
+    within-table-requires-3
+    returns-3)

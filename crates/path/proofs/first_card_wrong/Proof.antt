@@ -10,13 +10,16 @@ use Rattle.path.proofs.first_card_wrong.Statement.{statement}
 use Rattle.path.proofs.first_card_wrong.Tie as tie
 
 abbrev Inv-loop : tie.InvT-loop
-Inv-loop card n table j₀ j = Passed (λ j. not (cardRight card j)) n j
+Inv-loop list i card n plain keyed j₀ j = Passed (λ j. not (cardRight list i card j)) n j
 
 abbrev μ-loop : tie.MeasureT-loop
-μ-loop card n table j₀ j = n - j
+μ-loop list i card n plain keyed j₀ j = n - j
 
 column-bounds-requires : tie.Need-column-bounds-requires Inv-loop μ-loop
 column-bounds-requires c κs = search needs
+
+column-bounds-requires-2 : tie.Need-column-bounds-requires-2 Inv-loop μ-loop
+column-bounds-requires-2 c κs = search needs
 
 loop-holds : tie.Need-loop-holds Inv-loop μ-loop
 loop-holds c = passed-none _ _
@@ -24,13 +27,25 @@ loop-holds c = passed-none _ _
 slice-aggregate-card-right : tie.Need-slice-aggregate-card-right Inv-loop μ-loop
 slice-aggregate-card-right c = search needs
 
+slice-aggregate-card-right-2 : tie.Need-slice-aggregate-card-right-2 Inv-loop μ-loop
+slice-aggregate-card-right-2 c = search needs
+
 card-right-requires : tie.Need-card-right-requires Inv-loop μ-loop
-card-right-requires c κs = (omega arith, c .before .before .before .column-bounds .ensures)
+card-right-requires c κs =
+    let at-loop-test = c .before .before in
+    let tables = at-loop-test .before .before in
+    let start = tables .before .before .before .before in
+    record {
+      is-row = at-loop-test .loop-test .taken;
+      in-card = omega (arith, at-loop-test .loop-test .taken, start .pre);
+      plain-is = tables .before .column-bounds .ensures;
+      keyed-is = tables .column-bounds2 .ensures;
+    }
 
 returns : tie.Need-returns Inv-loop μ-loop
 returns c =
     sym
-    (passed-found _ (c .before .before .before .before .loop .inv) (c .before .before .before .loop-test .taken)
+    (passed-found _ (c .before .before .before .before .before .loop .inv) (c .before .before .before .before .loop-test .taken)
     (sym (ap not (c .before .card-right .ensures)) ∙ c .if1 .taken))
 
 add-j : tie.Need-add-j Inv-loop μ-loop
@@ -41,7 +56,7 @@ loop-less c = omega arith
 
 loop-again : tie.Need-loop-again Inv-loop μ-loop
 loop-again c =
-    passed-more _ (c .before .before .before .before .loop .inv) (c .before .before .before .loop-test .taken)
+    passed-more _ (c .before .before .before .before .before .loop .inv) (c .before .before .before .before .loop-test .taken)
     (sym (ap not (c .before .card-right .ensures)) ∙ c .if1 .left)
 
 returns-2 : tie.Need-returns-2 Inv-loop μ-loop
@@ -54,8 +69,10 @@ first-card-wrong-spec =
     Inv-loop
     μ-loop
     column-bounds-requires
+    column-bounds-requires-2
     loop-holds
     slice-aggregate-card-right
+    slice-aggregate-card-right-2
     card-right-requires
     returns
     add-j

@@ -4,7 +4,7 @@ use borrow.Author.Needs.{needs}
 use borrow.Author.Tests.{not-true, not-false}
 use mathlib.Core.Path.{ap}
 use lib.ListN.{length}
-use Rattle.rows.proofs.FieldLaws.{right-out, right-own, right-other}
+use Rattle.rows.proofs.FieldLaws.{right-out, right-own, right-rating, right-other}
 use Rattle.rows.proofs.field_right.Statement.{statement}
 use Rattle.rows.proofs.field_right.Tie as tie
 
@@ -30,13 +30,37 @@ returns-2 c =
     let start = found .before .before .before .before in
     right-own _ _ _ _ (found .before .field-at .ensures) _ (start .pre .2) _ (found .in-bounds .ensures) (not-false _ (c .before .if1 .left)) (c .if2 .taken)
 
+field-at-requires-2 : tie.Need-field-at-requires-2
+field-at-requires-2 c κs = search needs
+
+rating-right-requires : tie.Need-rating-right-requires
+rating-right-requires c κs = search needs
+
 returns-3 : tie.Need-returns-3
 returns-3 c =
-    let found = c .before .before in
+    let last = c .before .before in
+    let found = last .before .before .before in
     let start = found .before .before .before .before in
-    right-other _ _ _ _ (found .before .field-at .ensures) _ (start .pre .2) _ (found .in-bounds .ensures) (not-false _ (c .before .if1 .left)) (c .if2 .left)
+    right-rating _ _ _ _ (found .before .field-at .ensures) _ (start .pre .2) _ (found .in-bounds .ensures) (not-false _ (last .before .before .if1 .left))
+    (last .before .if2 .left) (last .if3 .taken) _ _ (c .before .field-at2 .ensures) (c .rating-right .ensures)
+
+returns-4 : tie.Need-returns-4
+returns-4 c =
+    let found = c .before .before .before in
+    let start = found .before .before .before .before in
+    right-other _ _ _ _ (found .before .field-at .ensures) _ (start .pre .2) _ (found .in-bounds .ensures) (not-false _ (c .before .before .if1 .left))
+    (c .before .if2 .left) (c .if3 .left)
 
 pub field-right-spec : {M : Type 1} → statement M
 field-right-spec =
     tie.close
-    (tie.spec field-at-requires in-bounds-requires returns add-result returns-2 returns-3)
+    (tie.spec
+    field-at-requires
+    in-bounds-requires
+    returns
+    add-result
+    returns-2
+    field-at-requires-2
+    rating-right-requires
+    returns-3
+    returns-4)

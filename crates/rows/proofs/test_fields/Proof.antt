@@ -9,13 +9,16 @@ use Rattle.rows.proofs.test_fields.Statement.{statement}
 use Rattle.rows.proofs.test_fields.Tie as tie
 
 abbrev Inv-loop : tie.InvT-loop
-Inv-loop list n table i₀ i = Passed (rowAtFault list) n i
+Inv-loop list n plain keyed i₀ i = Passed (rowAtFault list) n i
 
 abbrev μ-loop : tie.MeasureT-loop
-μ-loop list n table i₀ i = n - i
+μ-loop list n plain keyed i₀ i = n - i
 
 field-bounds-requires : tie.Need-field-bounds-requires Inv-loop μ-loop
 field-bounds-requires c κs = search needs
+
+field-bounds-requires-2 : tie.Need-field-bounds-requires-2 Inv-loop μ-loop
+field-bounds-requires-2 c κs = search needs
 
 loop-holds : tie.Need-loop-holds Inv-loop μ-loop
 loop-holds c = passed-none _ _
@@ -23,17 +26,22 @@ loop-holds c = passed-none _ _
 slice-aggregate-row-fault : tie.Need-slice-aggregate-row-fault Inv-loop μ-loop
 slice-aggregate-row-fault c = search needs
 
-row-fault-requires : tie.Need-row-fault-requires Inv-loop μ-loop
-row-fault-requires c κs = (omega arith, c .before .before .before .field-bounds .ensures)
+slice-aggregate-row-fault-2 : tie.Need-slice-aggregate-row-fault-2 Inv-loop μ-loop
+slice-aggregate-row-fault-2 c = search needs
 
-add-t12 : tie.Need-add-t12 Inv-loop μ-loop
-add-t12 c = omega arith
+row-fault-requires : tie.Need-row-fault-requires Inv-loop μ-loop
+row-fault-requires c κs =
+    let tables = c .before .before .before .before in
+    (omega arith, tables .before .field-bounds .ensures, tables .field-bounds2 .ensures)
+
+add-t15 : tie.Need-add-t15 Inv-loop μ-loop
+add-t15 c = omega arith
 
 returns : tie.Need-returns Inv-loop μ-loop
 returns c =
     let q = c .before .row-fault .ensures in
     fields-found _ _ _ q
-    (passed-found _ (c .before .before .before .before .loop .inv) (c .before .before .before .loop-test .taken) (row-wrong _ _ _ q (c .if1 .taken)))
+    (passed-found _ (c .before .before .before .before .before .loop .inv) (c .before .before .before .before .loop-test .taken) (row-wrong _ _ _ q (c .if1 .taken)))
 
 add-i : tie.Need-add-i Inv-loop μ-loop
 add-i c = omega arith
@@ -43,7 +51,7 @@ loop-less c = omega arith
 
 loop-again : tie.Need-loop-again Inv-loop μ-loop
 loop-again c =
-    passed-more _ (c .before .before .before .before .loop .inv) (c .before .before .before .loop-test .taken)
+    passed-more _ (c .before .before .before .before .before .loop .inv) (c .before .before .before .before .loop-test .taken)
     (row-right _ _ _ (c .before .row-fault .ensures) (omega arith))
 
 returns-2 : tie.Need-returns-2 Inv-loop μ-loop
@@ -56,10 +64,12 @@ test-fields-spec =
     Inv-loop
     μ-loop
     field-bounds-requires
+    field-bounds-requires-2
     loop-holds
     slice-aggregate-row-fault
+    slice-aggregate-row-fault-2
     row-fault-requires
-    add-t12
+    add-t15
     returns
     add-i
     loop-less

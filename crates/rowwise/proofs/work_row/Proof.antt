@@ -1,7 +1,12 @@
 -- `rowwise::work_row` meets its contract: the row is settled by its four numbers; a refusal touches nothing, and an outcome goes to
 -- the card and to the sums.
 use borrow.Author.Needs.{needs}
-use mathlib.Core.Path.{sym, _∙_, subst}
+use native.Mathlib.Omega.{arith}
+use Rattle.layout.specs.declared.Row.{Row}
+use Rattle.rowwise.specs.Ready.{HasFeeder}
+use mathlib.Core.Path.{_≡_, sym, _∙_, subst}
+use mathlib.Core.List.{List}
+use Prim.Native.Nat.{ℕ}
 use Rattle.layout.specs.Range.{Bounded}
 use Rattle.settle.specs.Fed.{FedBounded, CardBounded}
 use Rattle.settle.proofs.OutcomeLaws.{set-bounded}
@@ -9,8 +14,12 @@ use Rattle.rowwise.proofs.StepLaws.{step-unsettled, step-set}
 use Rattle.rowwise.proofs.work_row.Statement.{statement}
 use Rattle.rowwise.proofs.work_row.Tie as tie
 
+-- the row that was read has its feeder
+of-row : (l s : List ℕ) (r r′ : Row) → r ≡ r′ → HasFeeder l r′ s → HasFeeder l r s
+of-row l s r r′ e f = subst (λ (r : Row). HasFeeder l r s) (sym e) f
+
 row-at-requires : tie.Need-row-at-requires
-row-at-requires c κs = search needs
+row-at-requires c κs = let a = c .before .before .before .pre in (omega (arith, a .is-row), a .all-bounded _ (a .is-row))
 
 fed-at-requires : tie.Need-fed-at-requires
 fed-at-requires c κs = search needs
@@ -51,8 +60,11 @@ push-requires c κs =
     let a = read .before .before .before .before .pre in
     let bounded = subst Bounded (sym (read .row-at .ensures)) (a .all-bounded _ (a .is-row)) in
     let k = set-bounded _ _ _ _ _ bounded (sym (outcome .o .given .1) ∙ settled .settle .ensures) in
-    rw (read .row-at .ensures)
-    (record { bounded = a .all-bounded _ (a .is-row); settings = subst CardBounded (sym (shown .card-row .ensures)) k; feeder = a .feeder })
+    record {
+      bounded = bounded;
+      settings = subst (CardBounded _) (sym (shown .card-row .ensures)) k;
+      feeder = of-row _ _ _ _ (read .row-at .ensures) (a .feeder);
+    }
 
 same-length : tie.Need-same-length
 same-length c = search needs

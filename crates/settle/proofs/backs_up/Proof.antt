@@ -16,7 +16,7 @@ mul-result c = search needs
 
 mul-result-2 : tie.Need-mul-result-2
 mul-result-2 c =
-    let a = c .before .before .before .pre in
+    let a = c .before .before .before .before .pre in
     record { fits = lt-of-le-of-lt (mul-le-mul (mul-le-mul-left 12 (a .2)) (a .0 .volts-to)) (lit< tt) }
 
 mul-result-3 : tie.Need-mul-result-3
@@ -24,12 +24,12 @@ mul-result-3 c = search needs
 
 mul-result-4 : tie.Need-mul-result-4
 mul-result-4 c =
-    let a = c .before .before .before .before .before .pre in
+    let a = c .before .before .before .before .before .before .pre in
     record { fits = lt-of-le-of-lt (mul-le-mul (mul-le-mul-left 10 (a .1 .far-to)) (a .1 .volts-to)) (lit< tt) }
 
 returns-2 : tie.Need-returns-2
 unfolding backsUp
-returns-2 c = rw (eq-eqb _ 1 (c .before .before .before .if1 .left))
+returns-2 c = rw (eq-eqb _ 1 (c .before .before .before .before .if1 .left))
 
 pub backs-up-spec : {M : Type 1} → statement M
 backs-up-spec =

@@ -12,7 +12,7 @@ mul-result c = search needs
 
 mul-result-2 : tie.Need-mul-result-2
 mul-result-2 c =
-    let a = c .before .pre in
+    let a = c .before .before .pre in
     record { fits = lt-of-le-of-lt (mul-le-mul (mul-le-mul-left 12 (a .2)) (a .0 .volts-to)) (lit< tt) }
 
 sub-result : tie.Need-sub-result

@@ -1,19 +1,24 @@
--- `settle::cutoff_at` meets its contract: the least value from the bound rounded up is the least that stays clear; then its sensitivity decides.
+-- `settle::cutoff_at` meets its contract: the least value from the bound on is the least that stays clear; then its sensitivity decides.
 use borrow.Author.Needs.{needs}
-use native.Mathlib.Nat.{lt-of-le-of-lt, mul-le-mul}
-use lib.Dec.{lit<}
-use mathlib.Core.Path.{sym, _∙_}
-use Rattle.settle.proofs.PickupLaws.{found-bounded}
-use Rattle.settle.proofs.OutcomeLaws.{cutoff-from, cutoff-fitted, cutoff-blind, cutoff-none}
+use mathlib.Core.Path.{_≡_, sym, _∙_, ap, subst}
+use mathlib.Core.Bool.{Bool}
+use Prim.Native.Nat.{ℕ}
+use Rattle.layout.specs.declared.Row.{Row}
+use Rattle.sides.specs.declared.Primary.{Primary}
+use Rattle.sides.specs.Sides.{keyed}
+use Rattle.settle.specs.Conditions.{primaryOf, seesNear}
+use Rattle.settle.specs.Fed.{PrimaryBounded}
+use Rattle.settle.proofs.PickupLaws.{found-bounded, found-fits}
+use Rattle.settle.proofs.OutcomeLaws.{cutoff-least, cutoff-fitted, cutoff-blind, cutoff-none}
 use Rattle.settle.proofs.cutoff_at.Statement.{statement}
 use Rattle.settle.proofs.cutoff_at.Tie as tie
 
-mul-ceil-div : tie.Need-mul-ceil-div
-mul-ceil-div c =
-    record { fits = lt-of-le-of-lt (mul-le-mul (c .before .pre .factor-to) (c .before .pre .clear-to)) (lit< tt) }
+-- the sensitivity that was tested is that of the pickup found
+sees : (r : Row) (x : ℕ) (I : Primary) → I ≡ primaryOf r (keyed x) → (b t : Bool) → b ≡ seesNear r I → b ≡ t → seesNear r (primaryOf r (keyed x)) ≡ t
+sees r x I e b t f g = sym (ap (seesNear r) e) ∙ sym f ∙ g
 
-ceil-div-requires : tie.Need-ceil-div-requires
-ceil-div-requires c κs = search needs
+cutoff-from-requires : tie.Need-cutoff-from-requires
+cutoff-from-requires c κs = search needs
 
 least-on-requires : tie.Need-least-on-requires
 least-on-requires c κs = search needs
@@ -21,50 +26,61 @@ least-on-requires c κs = search needs
 enum-known-x : tie.Need-enum-known-x
 enum-known-x c = search needs
 
-sees-near-requires : tie.Need-sees-near-requires
-sees-near-requires c κs =
+in-primary-requires : tie.Need-in-primary-requires
+in-primary-requires c κs =
     let at-x = c .before in
     let at-least-on = at-x .before .before in
-    let start = at-least-on .before .before .before in
-    (start .pre, found-bounded _ (start .pre) _ _ (sym (at-least-on .least-on .ensures) ∙ at-x .x .given .1))
+    let start = at-least-on .before .before in
+    (start .pre .rated, found-bounded (start .args .r) (start .pre) _ _ (sym (at-least-on .least-on .ensures) ∙ at-x .x .given .1))
+
+sees-near-requires : tie.Need-sees-near-requires
+sees-near-requires c κs =
+    let at-x = c .before .before in
+    let at-least-on = at-x .before .before in
+    let start = at-least-on .before .before in (
+      start .pre,
+      subst PrimaryBounded (sym (c .in-primary .ensures))
+          (found-fits (start .args .r) (start .pre) _ (found-bounded (start .args .r) (start .pre) _ _ (sym (at-least-on .least-on .ensures) ∙ at-x .x .given .1))),
+    )
 
 enum-told : tie.Need-enum-told
 enum-told c = search needs
 
 returns : tie.Need-returns
 returns c =
-    let at-sees-near = c .before in
-    let at-x = at-sees-near .before .before in
+    let seen = c .before in
+    let at-x = seen .before .before .before in
     let at-least-on = at-x .before .before in
-    let at-ceil-div = at-least-on .before in
-    let start = at-ceil-div .before .before in
-    cutoff-fitted _ _ (sym (cutoff-from _ _ (at-ceil-div .ceil-div .ensures) (start .pre)) ∙ (sym (at-least-on .least-on .ensures) ∙ at-x .x .given .1))
-    (sym (at-sees-near .sees-near .ensures) ∙ c .if1 .taken)
+    let at-bound = at-least-on .before in
+    let r = at-bound .before .args .r in
+    cutoff-fitted r _ (sym (cutoff-least r _ (at-bound .cutoff-from .ensures)) ∙ (sym (at-least-on .least-on .ensures) ∙ at-x .x .given .1))
+    (sees r _ _ (seen .before .in-primary .ensures) _ _ (seen .sees-near .ensures) (c .if1 .taken))
 
 returns-2 : tie.Need-returns-2
 returns-2 c =
-    let at-sees-near = c .before in
-    let at-x = at-sees-near .before .before in
+    let seen = c .before in
+    let at-x = seen .before .before .before in
     let at-least-on = at-x .before .before in
-    let at-ceil-div = at-least-on .before in
-    let start = at-ceil-div .before .before in
-    cutoff-blind _ _ (sym (cutoff-from _ _ (at-ceil-div .ceil-div .ensures) (start .pre)) ∙ (sym (at-least-on .least-on .ensures) ∙ at-x .x .given .1))
-    (sym (at-sees-near .sees-near .ensures) ∙ c .if1 .left)
+    let at-bound = at-least-on .before in
+    let r = at-bound .before .args .r in
+    cutoff-blind r _ (sym (cutoff-least r _ (at-bound .cutoff-from .ensures)) ∙ (sym (at-least-on .least-on .ensures) ∙ at-x .x .given .1))
+    (sees r _ _ (seen .before .in-primary .ensures) _ _ (seen .sees-near .ensures) (c .if1 .left))
 
 returns-3 : tie.Need-returns-3
 returns-3 c =
-    cutoff-none _
-    (sym (cutoff-from _ _ (c .before .before .before .ceil-div .ensures) (c .before .before .before .before .before .pre)) ∙
-    (sym (c .before .before .least-on .ensures) ∙ c .enum-told .given .1))
+    let at-least-on = c .before .before in
+    let at-bound = at-least-on .before in
+    let r = at-bound .before .args .r in
+    cutoff-none r (sym (cutoff-least r _ (at-bound .cutoff-from .ensures)) ∙ (sym (at-least-on .least-on .ensures) ∙ c .enum-told .given .1))
 
 pub cutoff-at-spec : {M : Type 1} → statement M
 cutoff-at-spec =
     tie.close
     (tie.spec
-    mul-ceil-div
-    ceil-div-requires
+    cutoff-from-requires
     least-on-requires
     enum-known-x
+    in-primary-requires
     sees-near-requires
     enum-told
     returns

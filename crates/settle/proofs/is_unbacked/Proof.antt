@@ -1,5 +1,7 @@
 -- `settle::is_unbacked` meets its contract: row j is read, and passed over where another row feeds it.
 use borrow.Author.Needs.{needs}
+use native.Mathlib.Omega.{arith}
+use Rattle.sides.specs.declared.Primary.{Primary}
 use mathlib.Core.Path.{_≡_, sym, subst}
 use mathlib.Core.Bool.{Bool, false, not}
 use Prim.Native.Nat.{ℕ, _+_}
@@ -13,7 +15,7 @@ use Rattle.settle.proofs.is_unbacked.Statement.{statement}
 use Rattle.settle.proofs.is_unbacked.Tie as tie
 
 -- row j, read as f: fed elsewhere, or judged by P4
-module _ (v : View) (i : ℕ) (r : Row) (x j : ℕ) (f : Row) (e : f ≡ v .row j) where
+module _ (v : View) (i : ℕ) (r : Row) (x : Primary) (j : ℕ) (f : Row) (e : f ≡ v .row j) where
   by-feeder : (f .feeder ≡ i + 1 → ⊥) → false ≡ unbacked v i r x j
   unfolding unbacked
   by-feeder n = rw (← e, ne-eqb (f .feeder) (i + 1) n)
@@ -23,7 +25,7 @@ module _ (v : View) (i : ℕ) (r : Row) (x j : ℕ) (f : Row) (e : f ≡ v .row 
   by-backup g b h = rw (h, ← e, eq-eqb (f .feeder) (i + 1) g)
 
 row-at-requires : tie.Need-row-at-requires
-row-at-requires c κs = search needs
+row-at-requires c κs = let a = c .before .pre in (omega (arith, a .2), a .0 .all-bounded _ (a .2))
 
 add-if1 : tie.Need-add-if1
 add-if1 c = search needs

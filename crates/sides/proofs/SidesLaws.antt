@@ -1,0 +1,92 @@
+-- [02 §1] The ratio: exact, 1 where there is none, and rising, so that lower at the relay is lower in primary; and what fits.
+use mathlib.Core.Path.{_≡_, refl, sym, ap, _∙_}
+use mathlib.Core.Bool.{Bool, true, false, cond}
+use mathlib.Core.Logic.{_↔_, ⊎-elim}
+use Prim.Native.Nat.{ℕ, _*_, _≤_, _<_}
+use native.Mathlib.Nat.{mul-le-mul, mul-le-mul-right, mul-assoc, mul-comm, mul-left-comm, mul-lt-mul-of-pos-right}
+use native.Mathlib.Omega.{arith}
+use lib.Dec.{eqb}
+use borrow.Author.Tests.{eq-eqb, ne-eqb, eqb-true, eqb-false}
+use Rattle.fold.proofs.BoolLaws.{passes-or-fails, lt-or-le}
+use Rattle.sides.specs.declared.Ratio.{Ratio}
+use Rattle.sides.specs.declared.Secondary.{Secondary}
+use Rattle.sides.specs.Sides.{milliamperes, scale, inPrimary, settingMost, Rated}
+
+module _ (q : Ratio) where
+  -- the scale with no ratio, with a rated secondary of 1, and with another
+  pub scale-none : q .primary ≡ 0 → scale q ≡ 5
+  unfolding scale
+  scale-none e = rw (eq-eqb (q .primary) 0 e)
+
+  pub scale-one : (q .primary ≡ 0 → ⊥) → q .secondary ≡ 1 → scale q ≡ 5 * q .primary
+  unfolding scale
+  scale-one n e = rw (ne-eqb (q .primary) 0 n, eq-eqb (q .secondary) 1 e)
+
+  pub scale-other : (q .primary ≡ 0 → ⊥) → (q .secondary ≡ 1 → ⊥) → scale q ≡ q .primary
+  unfolding scale
+  scale-other n m = rw (ne-eqb (q .primary) 0 n, ne-eqb (q .secondary) 1 m)
+
+  -- it is at least 1
+  pub scale-from : 0 < scale q
+  unfolding scale
+  scale-from = by-cases (eqb (q .primary) 0) refl (eqb (q .secondary) 1)
+    where
+      by-cases : (a : Bool) → eqb (q .primary) 0 ≡ a → (b : Bool) → 0 < cond a 5 (cond b (5 * q .primary) (q .primary))
+      by-cases true e b = omega arith
+      by-cases false e true = omega (arith, eqb-false (q .primary) 0 e)
+      by-cases false e false = omega (arith, eqb-false (q .primary) 0 e)
+
+  -- "With 0 in both it stays primary"
+  pub stays-primary : q .primary ≡ 0 → (x : Secondary) → inPrimary q x ≡ milliamperes (x .0)
+  stays-primary e x = λ t. record { 0 = (ap (λ (k : ℕ). x .0 * k) (scale-none e) ∙ mul-comm (x .0) 5) t }
+
+  -- "the primary pickup is that number times the ratio": in fifths, times the rated secondary, it is 5 × the number × the rated primary;
+  -- nothing is rounded
+  pub exactly-the-ratio :
+      Rated q → (q .primary ≡ 0 → ⊥) → (x : Secondary) → inPrimary q x .0 * q .secondary ≡ 5 * (x .0 * q .primary)
+  exactly-the-ratio a n x =
+      ⊎-elim
+      (λ (e : q .secondary ≡ 1). rw (scale-one n e, e) (omega (arith, mul-left-comm (x .0) 5 (q .primary))))
+      (λ (e : q .secondary ≡ 5). rw (scale-other n (λ o. omega arith), e) (omega arith))
+      (a .secondary-fits .one-or-five n)
+
+  -- "lower means lower in primary"
+  pub lower-in-primary : (x y : Secondary) → (x .0 ≤ y .0) ↔ (inPrimary q x .0 ≤ inPrimary q y .0)
+  lower-in-primary x y = (
+    λ h. mul-le-mul-right (scale q) h,
+    λ h.
+        ⊎-elim
+        (λ (g : y .0 < x .0). let b = mul-lt-mul-of-pos-right g scale-from in absurd (omega arith))
+        (λ (g : x .0 ≤ y .0). g)
+        (lt-or-le (y .0) (x .0)),
+  )
+
+-- ---- what fits: a number at the relay and its primary current, in fifths
+
+pub setting-to : (p : ℕ) → settingMost p ≤ 100000000
+unfolding settingMost
+setting-to p = by-cases (eqb p 0)
+  where
+    by-cases : (a : Bool) → cond a 100000000 500000 ≤ 100000000
+    by-cases true = omega arith
+    by-cases false = omega arith
+
+module _ (q : Ratio) (a : Rated q) where
+  pub scale-to : scale q ≤ 100000
+  unfolding scale
+  scale-to = by-cases (eqb (q .primary) 0) (eqb (q .secondary) 1)
+    where
+      by-cases : (b c : Bool) → cond b 5 (cond c (5 * q .primary) (q .primary)) ≤ 100000
+      by-cases true c = omega arith
+      by-cases false true = omega (arith, a .primary-to)
+      by-cases false false = omega (arith, a .primary-to)
+
+  pub primary-to : (x : Secondary) → x .0 ≤ settingMost (q .primary) → inPrimary q x .0 ≤ 50000000000
+  unfolding settingMost
+  primary-to x h =
+      ⊎-elim
+      (λ (e : eqb (q .primary) 0 ≡ true).
+      let s = scale-none q (eqb-true (q .primary) 0 e) in
+      rw s (omega (arith, rw e at h)))
+      (λ (e : eqb (q .primary) 0 ≡ false). mul-le-mul (rw e at h) scale-to)
+      (passes-or-fails (eqb (q .primary) 0))
