@@ -7,7 +7,7 @@ use compare::boundary;
 use second::answer::{Answer, CARD};
 use second::conditions::step_between;
 use second::fast;
-use second::generate::{list_shaped, Shape};
+use second::generate::{list_keyed, Keyed, Shape, KEYED};
 use second::replace::{replace, Replaced};
 use second::row::{path_of, Row, CARD_NUMBERS, FIELDS, MOST_DELAY};
 use second::whole::Settings;
@@ -33,30 +33,32 @@ struct Turns {
 
 pub fn replacements() {
     println!(
-        "shape  row  rows worked out  tests ns  path ns  together ns  Rust afresh ns  \
+        "keyed, shape     row  rows worked out  tests ns  path ns  together ns  Rust afresh ns  \
          together/Rust  path/Rust"
     );
-    for shape in [Shape::Chain, Shape::Tree] {
-        let list = accepted(shape);
+    let shapes = [Shape::Chain, Shape::Tree];
+    for (keyed, shape) in KEYED.into_iter().flat_map(|keyed| shapes.map(|shape| (keyed, shape))) {
+        let list = accepted(shape, keyed);
         for place in [1, ROWS / 2, ROWS] {
             let far = whole_path(&list, place);
             // In place of itself a row changes nothing, and its feeding row stops the climb.
             let near = Turns::new(&list, [row_at(&list, place); 2]);
             assert_eq!(near.worked_out, far.worked_out.min(2));
-            print(shape, &far);
+            print(keyed, shape, &far);
             if near.worked_out < far.worked_out {
-                print(shape, &near);
+                print(keyed, shape, &near);
             }
         }
     }
 }
 
-fn print(shape: Shape, turns: &Turns) {
+fn print(keyed: Keyed, shape: Shape, turns: &Turns) {
     let (place, rows) = (turns.rows[0].row, turns.worked_out);
+    let lists = format!("{keyed:?} {shape:?}");
     let [tests, whole, rust] = measure(turns);
     let path = whole - tests;
     println!(
-        "{shape:<5?} {place:>4} {rows:>16} {tests:>9.0} {path:>8.0} {whole:>12.0} {rust:>15.0} \
+        "{lists:<15} {place:>4} {rows:>16} {tests:>9.0} {path:>8.0} {whole:>12.0} {rust:>15.0} \
          {:>14.2} {:>10.2}",
         whole / rust,
         path / rust
@@ -64,8 +66,8 @@ fn print(shape: Shape, turns: &Turns) {
 }
 
 /// A list that is accepted, with room for longer delays.
-fn accepted(shape: Shape) -> Vec<u64> {
-    let made = (0..).map(|seed| list_shaped(shape, ROWS, seed));
+fn accepted(shape: Shape, keyed: Keyed) -> Vec<u64> {
+    let made = (0..).map(|seed| list_keyed(shape, ROWS, keyed, seed));
     let list = made.into_iter().find(|list| carded(list).is_some());
     let mut list = list.expect("there is always one more");
     for row in list.as_chunks_mut::<FIELDS>().0 {

@@ -1,5 +1,6 @@
 //! The proved library beside the linear program in Rust: the same accepted
-//! lists and buffers, rounds of each in turn, the median round.
+//! lists and buffers, rounds of each in turn, the median round. Lists keyed in
+//! primary mA are those of earlier versions, with two zeros to a row [02 §1].
 
 mod changes;
 mod differentials;
@@ -7,7 +8,7 @@ mod differentials;
 use compare::boundary;
 use second::answer::Answer;
 use second::fast;
-use second::generate::{lent_card, list_shaped, Shape};
+use second::generate::{lent_card, list_keyed, Keyed, Shape, KEYED};
 use second::row::{CARD_NUMBERS, FIELDS, MOST_ROWS};
 use std::hint::black_box;
 use std::time::Instant;
@@ -40,16 +41,17 @@ fn main() {
 }
 
 fn whole_calculations() {
-    println!("shape rows   Rattle ns     Rust ns  Rattle/Rust");
-    for shape in SHAPES {
-        let medians = measure(shape);
+    println!("keyed, shape    rows   Rattle ns     Rust ns  Rattle/Rust");
+    for (keyed, shape) in KEYED.into_iter().flat_map(|keyed| SHAPES.map(|shape| (keyed, shape))) {
+        let medians = measure(shape, keyed);
         for (rows, (rattle, rust)) in SIZES.iter().zip(&medians) {
-            println!("{shape:<5?} {rows:>4} {rattle:>11.0} {rust:>11.0} {:>12.2}", rattle / rust);
+            let (lists, ratio) = (format!("{keyed:?} {shape:?}"), rattle / rust);
+            println!("{lists:<15} {rows:>4} {rattle:>11.0} {rust:>11.0} {ratio:>12.2}");
         }
         let [least, _, most] = medians;
         println!(
-            "{shape:?}: Rattle/Rust at 256 rows {:.2} (target at most {MOST_RATIO}), growth from \
-             64 to 256 rows {:.2} (target at most {MOST_GROWTH}; Rust {:.2})",
+            "{keyed:?} {shape:?}: Rattle/Rust at 256 rows {:.2} (target at most {MOST_RATIO}), \
+             growth from 64 to 256 rows {:.2} (target at most {MOST_GROWTH}; Rust {:.2})",
             most.0 / most.1,
             most.0 / least.0,
             most.1 / least.1
@@ -58,8 +60,8 @@ fn whole_calculations() {
 }
 
 /// Median times of Rattle and Rust at each size; sizes and programs take turns.
-fn measure(shape: Shape) -> [(f64, f64); 3] {
-    let size = |rows| Size { lists: accepted(shape, rows), rattle: vec![], rust: vec![] };
+fn measure(shape: Shape, keyed: Keyed) -> [(f64, f64); 3] {
+    let size = |rows| Size { lists: accepted(shape, keyed, rows), rattle: vec![], rust: vec![] };
     let mut sizes = SIZES.map(size);
     let mut card = lent_card(CARD_NUMBERS * MOST_ROWS, 1);
     for _ in 0..ROUNDS {
@@ -71,8 +73,8 @@ fn measure(shape: Shape) -> [(f64, f64); 3] {
     sizes.map(|size| (median(size.rattle), median(size.rust)))
 }
 
-fn accepted(shape: Shape, rows: u64) -> Vec<Vec<u64>> {
-    let lists = (0..).map(|seed| list_shaped(shape, rows, seed));
+fn accepted(shape: Shape, keyed: Keyed, rows: u64) -> Vec<Vec<u64>> {
+    let lists = (0..).map(|seed| list_keyed(shape, rows, keyed, seed));
     let is_accepted = |list: &Vec<u64>| {
         let mut card = vec![0; CARD_NUMBERS * list.len() / FIELDS];
         fast::whole(list, &mut card) == Answer::DONE

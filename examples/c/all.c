@@ -13,19 +13,21 @@
 
 /* fields, from 0 as C counts them; surfpocket.h and the README count from 1 */
 enum {
-    ROW, FEEDS_FROM, KIND, VOLTS, WORK, SELFSTART, RETURN, FAR, CLEAR, NEAR, FACTOR, LOW, HIGH, STEP, DEVICE, FLOOR, CEILING, BACKED
+    ROW, FEEDS_FROM, KIND, VOLTS, WORK, SELFSTART, RETURN, FAR, CLEAR, NEAR, FACTOR, LOW, HIGH, STEP, DEVICE, FLOOR, CEILING, BACKED,
+    RATED_PRIMARY, RATED_SECONDARY
 };
 
-/* a feeder, and the incomer that feeds it */
+/* a feeder, and the incomer that feeds it; both are keyed in primary mA, so that they have no rated currents */
 static const uint64_t plant[NUMBERS] = {
-    1, 2, 1, 35000, 180000, 1500, 935, 900000, 1000000, 1800000, 1300, 50000, 5000000, 1000, 1, 1900, 5000, 1,
-    2, 0, 1, 35000, 200000, 1500, 935, 1500000, 3300000, 5200000, 1300, 50000, 10000000, 10000, 1, 0, 3000, 0,
+    1, 2, 1, 35000, 180000, 1500, 935, 900000, 1000000, 1800000, 1300, 50000, 5000000, 1000, 1, 1900, 5000, 1, 0, 0,
+    2, 0, 1, 35000, 200000, 1500, 935, 1500000, 3300000, 5200000, 1300, 50000, 10000000, 10000, 1, 0, 3000, 0, 0, 0,
 };
 
 static const char text[] =
-    "row,name,feeds_from,kind,volts,work,selfstart,return,far,clear,near,factor,low,high,step,device,floor,ceiling,backed\r\n"
-    "1,F1,2,1,35000,180000,1500,935,900000,1000000,1800000,1300,50000,5000000,1000,1,1900,5000,1\r\n"
-    "2,IN,0,1,35000,200000,1500,935,1500000,3300000,5200000,1300,50000,10000000,10000,1,0,3000,0\r\n";
+    "row,name,feeds_from,kind,volts,work,selfstart,return,far,clear,near,factor,low,high,step,device,floor,ceiling,backed,"
+    "rated_primary,rated_secondary\r\n"
+    "1,F1,2,1,35000,180000,1500,935,900000,1000000,1800000,1300,50000,5000000,1000,1,1900,5000,1,0,0\r\n"
+    "2,IN,0,1,35000,200000,1500,935,1500000,3300000,5200000,1300,50000,10000000,10000,1,0,3000,0,0,0\r\n";
 
 static const char *name_of(uint64_t number)
 {
@@ -98,6 +100,8 @@ static void whole(void)
     show("a card of 5 numbers", surfpocket_whole(plant, NUMBERS, card, SETTINGS - 1));
     try_whole("row 1: volts 99", 0, VOLTS, 99);
     try_whole("row 1: low above high", 0, LOW, 5000001);
+    try_whole("row 1: a rated secondary alone", 0, RATED_SECONDARY, 5);
+    try_whole("row 1: pickups secondary, to 5,000 A", 0, RATED_PRIMARY, 300);
     try_whole("row 1: fed by itself", 0, FEEDS_FROM, 1);
     try_whole("row 2: high 359,999 mA", 1, HIGH, 359999);
     try_whole("row 2: far 539,999 mA", 1, FAR, 539999);
@@ -115,6 +119,19 @@ static SurfpocketReplacement put_row_1(uint64_t *list, uint64_t *card, size_t fi
     return surfpocket_replace(list, NUMBERS, card, SETTINGS, 1, row, SURFPOCKET_SIZE_FIELDS);
 }
 
+/* the same with its relay keyed in secondary mA, 500 to 80,000 in steps of 10, behind a transformer of 300/5 A */
+static SurfpocketReplacement key_row_1(uint64_t *list, uint64_t *card)
+{
+    uint64_t row[SURFPOCKET_SIZE_FIELDS];
+    memcpy(row, list, sizeof row);
+    row[LOW] = 500;
+    row[HIGH] = 80000;
+    row[STEP] = 10;
+    row[RATED_PRIMARY] = 300;
+    row[RATED_SECONDARY] = 5;
+    return surfpocket_replace(list, NUMBERS, card, SETTINGS, 1, row, SURFPOCKET_SIZE_FIELDS);
+}
+
 static void replace(void)
 {
     uint64_t list[NUMBERS], card[SETTINGS], old_list[NUMBERS], old_card[SETTINGS];
@@ -127,6 +144,8 @@ static void replace(void)
     show_card(card);
     show_replacement("row 2 in place of itself",
                      surfpocket_replace(list, NUMBERS, card, SETTINGS, 2, plant + SURFPOCKET_SIZE_FIELDS, SURFPOCKET_SIZE_FIELDS));
+    show_replacement("keyed in secondary mA behind 300/5 A", key_row_1(list, card));
+    show_card(card);
     memcpy(old_list, list, sizeof list);
     memcpy(old_card, card, sizeof card);
     show_replacement("work 5,000,000 mA", put_row_1(list, card, WORK, 5000000));
@@ -137,7 +156,7 @@ static void replace(void)
     show_replacement("another number", put_row_1(list, card, ROW, 2));
     show_replacement("a place that no row has",
                      surfpocket_replace(list, NUMBERS, card, SETTINGS, 3, plant, SURFPOCKET_SIZE_FIELDS));
-    show_replacement("a new row of 17 numbers",
+    show_replacement("a new row of 19 numbers",
                      surfpocket_replace(list, NUMBERS, card, SETTINGS, 1, plant, SURFPOCKET_SIZE_FIELDS - 1));
     show_replacement("a list with a partial row",
                      surfpocket_replace(list, NUMBERS - 1, card, SETTINGS, 1, plant, SURFPOCKET_SIZE_FIELDS));

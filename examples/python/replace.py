@@ -1,13 +1,14 @@
-"""A feeder and its incomer: one changed load on the old card, changes that are refused and leave the card alone, another device.
-Then a plant of eight rows: how far a changed load goes, and so which relays the fitter visits."""
+"""A feeder and its incomer: one changed load on the old card, changes that are refused and leave the card alone, another device,
+a relay keyed in secondary mA. Then a plant of eight rows: how far a changed load goes, and so which relays the fitter visits."""
 import csv
 import itertools
 
 import surfpocket
 
-# row, feeds_from, kind, volts, work, selfstart, return, far, clear, near, factor, low, high, step, device, floor, ceiling, backed
-F1 = [1, 2, 1, 35000, 180000, 1500, 935, 900000, 1000000, 1800000, 1300, 50000, 5000000, 1000, 1, 1900, 5000, 1]
-IN = [2, 0, 1, 35000, 200000, 1500, 935, 1500000, 3300000, 5200000, 1300, 50000, 10000000, 10000, 1, 0, 3000, 0]
+# row, feeds_from, kind, volts, work, selfstart, return, far, clear, near, factor, low, high, step, device, floor, ceiling, backed,
+# rated primary, rated secondary: 0 in both, so that the relays are keyed in primary mA
+F1 = [1, 2, 1, 35000, 180000, 1500, 935, 900000, 1000000, 1800000, 1300, 50000, 5000000, 1000, 1, 1900, 5000, 1, 0, 0]
+IN = [2, 0, 1, 35000, 200000, 1500, 935, 1500000, 3300000, 5200000, 1300, 50000, 10000000, 10000, 1, 0, 3000, 0, 0, 0]
 PLANT = surfpocket.HOME / "examples/lists/plant-35-6.csv"
 # places in a row, from 0
 FEEDS_FROM = 1
@@ -15,10 +16,16 @@ WORK = 4
 FAR = 7
 LOW = 11
 DEVICE = 14
+RATED_PRIMARY = 18
 
 
 def changed(row, field, value):
     return row[:field] + [value] + row[field + 1 :]
+
+
+def keyed_in_secondary(row):
+    """The row with pickups of 500 to 80,000 secondary mA in steps of 10, behind a transformer of 300/5 A."""
+    return row[:LOW] + [500, 80000, 10] + row[DEVICE:RATED_PRIMARY] + [300, 5]
 
 
 def path(rows, place):
@@ -61,6 +68,8 @@ def main():
     surfpocket.print_card(card)
     print("row 2, an electromechanical relay:")
     replace(library, rows, card, changed(IN, DEVICE, 2))
+    print("row 1, keyed in secondary mA behind 300/5 A:")
+    replace(library, rows, card, keyed_in_secondary(changed(F1, WORK, 190000)))
     print("the plant:")
     with open(PLANT, newline="") as text:
         lines = list(csv.reader(text))[1:]

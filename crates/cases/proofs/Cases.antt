@@ -4,9 +4,11 @@ use mathlib.Core.List.{map}
 use Rattle.fold.specs.First.{first}
 use Rattle.fold.specs.Fold.{sumTo, every}
 use Rattle.grid.specs.Grid.{count, valueAt, leastOn}
+use Rattle.sides.specs.Sides.{scale, settingMost}
 use Rattle.layout.specs.Card.{putCardRow}
 use Rattle.layout.specs.Fields.{inBounds}
-use Rattle.rows.specs.Tests.{sizeTest, rowsTest, fieldRight, faultAfter, rowFault, feedsRight, treeAnswer, treeTest, fieldAnswer}
+use Rattle.rows.specs.Tests.{sizeTest, rowsTest, ratingRight, fieldRight, highRight, orderFault, faultAfter, rowFault}
+use Rattle.rows.specs.Tests.{feedsRight, treeAnswer, treeTest, fieldAnswer}
 use Rattle.settle.specs.Conditions.{returnsAfterSelfStart, clearOf, seesOwnZone, backsUp, withinDelays}
 use Rattle.settle.specs.Conditions.{margin, marginBetween, gradedAbove, staysClear, seesNear}
 use Rattle.settle.specs.Settle.{meetsLower, unbacked, firstUnbacked, candidate, byBackup, judged, picked}
@@ -19,12 +21,13 @@ use Rattle.path.specs.Path.{pathFrom, pathOf}
 use Rattle.path.specs.Reach.{onward, reachFrom}
 use Rattle.change.specs.Edit.{putList, editRight, editTest}
 use Rattle.change.specs.Replace.{reworked, outcome, replaced}
-use Rattle.path.specs.CardTest.{cardRight, cardAnswer, cardTest}
+use Rattle.path.specs.CardTest.{lentMost, withinTable, cardAnswer, cardTest}
 
 pub cases : map (λ (w : Worked). comes (w .case)) table ≡ map (λ (w : Worked). w .is) table
-unfolding first sumTo every count valueAt leastOn sizeTest rowsTest inBounds fieldRight faultAfter rowFault feedsRight treeAnswer treeTest fieldAnswer
+unfolding first sumTo every count valueAt leastOn scale settingMost sizeTest rowsTest inBounds ratingRight fieldRight highRight orderFault faultAfter
+    rowFault feedsRight treeAnswer treeTest fieldAnswer
     returnsAfterSelfStart clearOf seesOwnZone backsUp withinDelays margin marginBetween gradedAbove staysClear seesNear meetsLower unbacked firstUnbacked
     candidate byBackup judged picked meetsDelay fitting cutoffOf printed shown outcomeOf settled putCardRow onSettled workOut upFrom
     ending calculation whole comes worked table twoRows twoCard backedCard laterCard blank firstRow underOne pickups
-    pathFrom pathOf onward reachFrom putList editRight editTest cardRight cardAnswer cardTest onPassed reworked outcome replaced
+    pathFrom pathOf onward reachFrom putList editRight editTest lentMost withinTable cardAnswer cardTest onPassed reworked outcome replaced
 cases = refl

@@ -1,3 +1,4 @@
 pub mod Cases
 pub mod GivenLaws
 pub mod MoreCases
+pub mod SideCases

@@ -4,9 +4,11 @@ use mathlib.Core.List.{map}
 use Rattle.fold.specs.First.{first}
 use Rattle.fold.specs.Fold.{sumTo, every}
 use Rattle.grid.specs.Grid.{count, valueAt, leastOn}
+use Rattle.sides.specs.Sides.{scale, settingMost}
 use Rattle.layout.specs.Card.{putCardRow}
 use Rattle.layout.specs.Fields.{inBounds}
-use Rattle.rows.specs.Tests.{sizeTest, rowsTest, fieldRight, faultAfter, rowFault, feedsRight, treeAnswer, treeTest, fieldAnswer}
+use Rattle.rows.specs.Tests.{sizeTest, rowsTest, ratingRight, fieldRight, highRight, orderFault, faultAfter, rowFault}
+use Rattle.rows.specs.Tests.{feedsRight, treeAnswer, treeTest, fieldAnswer}
 use Rattle.settle.specs.Conditions.{returnsAfterSelfStart, clearOf, seesOwnZone, backsUp, withinDelays}
 use Rattle.settle.specs.Conditions.{margin, marginBetween, gradedAbove, staysClear, seesNear}
 use Rattle.settle.specs.Settle.{meetsLower, unbacked, firstUnbacked, candidate, byBackup, judged, picked}
@@ -19,14 +21,15 @@ use Rattle.path.specs.Path.{pathFrom, pathOf}
 use Rattle.path.specs.Reach.{onward, reachFrom}
 use Rattle.change.specs.Edit.{putList, editRight, editTest}
 use Rattle.change.specs.Replace.{reworked, outcome, replaced}
-use Rattle.path.specs.CardTest.{cardRight, cardAnswer, cardTest}
+use Rattle.path.specs.CardTest.{lentMost, withinTable, cardAnswer, cardTest}
 
 pub more-cases : map (λ (w : Worked). comes (w .case)) moreTable ≡ map (λ (w : Worked). w .is) moreTable
-unfolding first sumTo every count valueAt leastOn sizeTest rowsTest inBounds fieldRight faultAfter rowFault feedsRight treeAnswer treeTest fieldAnswer
+unfolding first sumTo every count valueAt leastOn scale settingMost sizeTest rowsTest inBounds ratingRight fieldRight highRight orderFault faultAfter
+    rowFault feedsRight treeAnswer treeTest fieldAnswer
     returnsAfterSelfStart clearOf seesOwnZone backsUp withinDelays margin marginBetween gradedAbove staysClear seesNear meetsLower unbacked firstUnbacked
     candidate byBackup judged picked meetsDelay fitting cutoffOf
     printed shown outcomeOf settled putCardRow onSettled workOut upFrom ending calculation whole comes worked moreTable conditions faults ranges
     replacements gradings stopping plant lent plantCard chain chainCard pathFrom pathOf onward reachFrom
-    putList editRight editTest cardRight cardAnswer cardTest onPassed
+    putList editRight editTest lentMost withinTable cardAnswer cardTest onPassed
     reworked outcome replaced
 more-cases = refl

@@ -6,11 +6,12 @@ use Prim.Native.Nat.{ℕ}
 use Rattle.answers.specs.Answer.{givenBy}
 use Rattle.layout.specs.View.{viewOf, Settings}
 use Rattle.settle.specs.Conditions.{eachFed, clearOf}
+use Rattle.sides.specs.Sides.{milliamperes}
 use Rattle.calculate.specs.Whole.{whole}
 use Rattle.change.specs.Replace.{replaced}
 
--- a list calculated on a lent card; a place and a new row for it, replaced on a list and a card; pickup I of row i of a list
--- held against P2, the rows below at these settings
+-- a list calculated on a lent card; a place and a new row for it, replaced on a list and a card; pickup I of row i of a list,
+-- in primary mA, held against P2, the rows below at these settings
 pub data Case : Type 0 where
   calculates : List ℕ → List ℕ → Case
   replaces : List ℕ → List ℕ → ℕ → List ℕ → Case
@@ -28,7 +29,7 @@ comes (calculates l c) = calculated (givenBy (whole l c .answer)) (whole l c .ca
 comes (replaces l c place row) =
     let r = replaced l c place row in
     replacing (givenBy (r .answer)) (r .count) (r .list) (r .card)
-comes (clears l k i I) = clear (eachFed (viewOf l) i (λ j. clearOf (viewOf l) k i j I))
+comes (clears l k i I) = clear (eachFed (viewOf l) i (λ j. clearOf (viewOf l) k i j (milliamperes I)))
 
 -- a case with what the documents say of it
 pub record Worked : Type 0 where

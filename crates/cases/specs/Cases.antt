@@ -6,6 +6,7 @@ use lib.ListN.{set}
 use Rattle.layout.specs.Fields.{atWork, atFar, atNear, atLow, atHigh, atDevice, atCeiling}
 use Rattle.layout.specs.View.{Settings}
 use Rattle.settle.specs.Cases.{with}
+use Rattle.sides.specs.Sides.{keyed}
 use Rattle.cases.specs.Case.{Worked, worked}
 use Rattle.cases.specs.Case.Case.{calculates, replaces, clears}
 use Rattle.cases.specs.Case.Comes.{calculated, replacing, clear}
@@ -14,26 +15,26 @@ use Rattle.cases.specs.Case.Comes.{calculated, replacing, clear}
 unfoldable pub twoRows : List ℕ
 twoRows =
     1 ∷ 2 ∷ 1 ∷ 35000 ∷ 180000 ∷ 1500 ∷ 935 ∷ 900000 ∷ 1000000 ∷ 1800000 ∷ 1300 ∷ 50000 ∷ 5000000 ∷ 1000 ∷ 1 ∷ 1900 ∷
-    5000 ∷ 1 ∷
+    5000 ∷ 1 ∷ 0 ∷ 0 ∷
     2 ∷ 0 ∷ 1 ∷ 35000 ∷ 200000 ∷ 1500 ∷ 935 ∷ 1500000 ∷ 3300000 ∷ 5200000 ∷ 1300 ∷ 50000 ∷ 10000000 ∷ 10000 ∷ 1 ∷ 0 ∷
-    3000 ∷ 0 ∷ []
+    3000 ∷ 0 ∷ 0 ∷ 0 ∷ []
 
 -- F1 with another work, and with another far
 unfoldable pub firstRow : ℕ → ℕ → List ℕ
-firstRow work far = 1 ∷ 2 ∷ 1 ∷ 35000 ∷ work ∷ 1500 ∷ 935 ∷ far ∷ 1000000 ∷ 1800000 ∷ 1300 ∷ 50000 ∷ 5000000 ∷ 1000 ∷ 1 ∷ 1900 ∷ 5000 ∷ 1 ∷ []
+firstRow work far = 1 ∷ 2 ∷ 1 ∷ 35000 ∷ work ∷ 1500 ∷ 935 ∷ far ∷ 1000000 ∷ 1800000 ∷ 1300 ∷ 50000 ∷ 5000000 ∷ 1000 ∷ 1 ∷ 1900 ∷ 5000 ∷ 1 ∷ 0 ∷ 0 ∷ []
 
 -- two rows of equal volts, work 10,000 and 90,000, fed by a third
 unfoldable pub underOne : List ℕ
 underOne =
-    1 ∷ 3 ∷ 1 ∷ 6000 ∷ 10000 ∷ 1000 ∷ 1000 ∷ 900000 ∷ 1000000 ∷ 1800000 ∷ 1300 ∷ 50000 ∷ 5000000 ∷ 1000 ∷ 1 ∷ 0 ∷ 5000 ∷ 0 ∷
-    2 ∷ 3 ∷ 1 ∷ 6000 ∷ 90000 ∷ 1000 ∷ 1000 ∷ 900000 ∷ 1000000 ∷ 1800000 ∷ 1300 ∷ 50000 ∷ 5000000 ∷ 1000 ∷ 1 ∷ 0 ∷ 5000 ∷ 0 ∷
+    1 ∷ 3 ∷ 1 ∷ 6000 ∷ 10000 ∷ 1000 ∷ 1000 ∷ 900000 ∷ 1000000 ∷ 1800000 ∷ 1300 ∷ 50000 ∷ 5000000 ∷ 1000 ∷ 1 ∷ 0 ∷ 5000 ∷ 0 ∷ 0 ∷ 0 ∷
+    2 ∷ 3 ∷ 1 ∷ 6000 ∷ 90000 ∷ 1000 ∷ 1000 ∷ 900000 ∷ 1000000 ∷ 1800000 ∷ 1300 ∷ 50000 ∷ 5000000 ∷ 1000 ∷ 1 ∷ 0 ∷ 5000 ∷ 0 ∷ 0 ∷ 0 ∷
     3 ∷ 0 ∷ 1 ∷ 6000 ∷ 100000 ∷ 1000 ∷ 1000 ∷ 900000 ∷ 1000000 ∷ 1800000 ∷ 1300 ∷ 50000 ∷ 5000000 ∷ 1000 ∷ 1 ∷ 0 ∷
-    5000 ∷ 0 ∷ []
+    5000 ∷ 0 ∷ 0 ∷ 0 ∷ []
 
 -- the pickups of those two rows
 unfoldable pub pickups : ℕ → ℕ → Settings
-pickups a b zero = record { pickup = a; delay = 0; cutoff = 0 }
-pickups a b (suc j) = record { pickup = b; delay = 0; cutoff = 0 }
+pickups a b zero = record { pickup = keyed a; delay = 0; cutoff = keyed 0 }
+pickups a b (suc j) = record { pickup = keyed b; delay = 0; cutoff = keyed 0 }
 
 unfoldable pub blank : List ℕ
 blank = 0 ∷ 0 ∷ 0 ∷ 0 ∷ 0 ∷ 0 ∷ []

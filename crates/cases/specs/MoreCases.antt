@@ -14,15 +14,15 @@ use Rattle.cases.specs.Case.Comes.{calculated, replacing}
 -- 10 × 229,350 = 15 × 152,900. By P4: 10 × 458,700 × 10,000 = 12 × 152,900 × 25,000. By D2: 0 + 500, not 100 + 300.
 unfoldable pub plant : List ℕ
 plant =
-    1 ∷ 3 ∷ 1 ∷ 10000 ∷ 100000 ∷ 1500 ∷ 1000 ∷ 458700 ∷ 500000 ∷ 726000 ∷ 1200 ∷ 5000 ∷ 1005000 ∷ 10000 ∷ 2 ∷ 0 ∷ 1000 ∷ 1 ∷
-    2 ∷ 3 ∷ 3 ∷ 6000 ∷ 50000 ∷ 6000 ∷ 800 ∷ 700000 ∷ 900000 ∷ 1825000 ∷ 1000 ∷ 12500 ∷ 1012500 ∷ 100000 ∷ 3 ∷ 0 ∷ 100 ∷ 0 ∷
-    3 ∷ 0 ∷ 2 ∷ 25000 ∷ 60000 ∷ 1200 ∷ 1000 ∷ 229350 ∷ 150000 ∷ 605800 ∷ 2000 ∷ 2900 ∷ 402900 ∷ 10000 ∷ 1 ∷ 0 ∷ 500 ∷ 0 ∷ []
+    1 ∷ 3 ∷ 1 ∷ 10000 ∷ 100000 ∷ 1500 ∷ 1000 ∷ 458700 ∷ 500000 ∷ 726000 ∷ 1200 ∷ 5000 ∷ 1005000 ∷ 10000 ∷ 2 ∷ 0 ∷ 1000 ∷ 1 ∷ 0 ∷ 0 ∷
+    2 ∷ 3 ∷ 3 ∷ 6000 ∷ 50000 ∷ 6000 ∷ 800 ∷ 700000 ∷ 900000 ∷ 1825000 ∷ 1000 ∷ 12500 ∷ 1012500 ∷ 100000 ∷ 3 ∷ 0 ∷ 100 ∷ 0 ∷ 0 ∷ 0 ∷
+    3 ∷ 0 ∷ 2 ∷ 25000 ∷ 60000 ∷ 1200 ∷ 1000 ∷ 229350 ∷ 150000 ∷ 605800 ∷ 2000 ∷ 2900 ∷ 402900 ∷ 10000 ∷ 1 ∷ 0 ∷ 500 ∷ 0 ∷ 0 ∷ 0 ∷ []
 
 -- the list with number x in field k of row n; row n of a list
-abbrev with : List ℕ → ℕ → ℕ → ℕ → List ℕ
+abbrev pub with : List ℕ → ℕ → ℕ → ℕ → List ℕ
 with l n k x = set l ((n - 1) * fieldCount + (k - 1)) x
 
-abbrev row : ℕ → List ℕ → List ℕ
+abbrev pub row : ℕ → List ℕ → List ℕ
 row n l = take fieldCount (drop ((n - 1) * fieldCount) l)
 
 -- a card of three rows with one number more, as lent and as the list leaves it
@@ -37,18 +37,18 @@ unfoldable pub plantCard : List ℕ
 plantCard = cardOf 152900 500 302900
 
 -- a whole calculation: done with a card, or refused with three numbers
-abbrev done : List ℕ → List ℕ → Worked
+abbrev pub done : List ℕ → List ℕ → Worked
 done l c = worked (calculates l lent) (calculated (0 ∷ 0 ∷ 0 ∷ []) c)
 
-abbrev refused : List ℕ → ℕ → ℕ → ℕ → Worked
+abbrev pub refused : List ℕ → ℕ → ℕ → ℕ → Worked
 refused l number place field = worked (calculates l lent) (calculated (number ∷ place ∷ field ∷ []) lent)
 
 -- row n of a list and card replaced by that of another list, m rows being worked out; that is then the list, with its card
-abbrev becomes : List ℕ → List ℕ → ℕ → ℕ → List ℕ → List ℕ → Worked
+abbrev pub becomes : List ℕ → List ℕ → ℕ → ℕ → List ℕ → List ℕ → Worked
 becomes l c n m l′ c′ = worked (replaces l c n (row n l′)) (replacing (0 ∷ 0 ∷ 0 ∷ []) m l′ c′)
 
 -- a replacement on a list and a card refused with three numbers; on the plant
-abbrev keptIn : List ℕ → List ℕ → ℕ → List ℕ → ℕ → ℕ → ℕ → Worked
+abbrev pub keptIn : List ℕ → List ℕ → ℕ → List ℕ → ℕ → ℕ → ℕ → Worked
 keptIn l c place new number at field = worked (replaces l c place new) (replacing (number ∷ at ∷ field ∷ []) 0 l c)
 
 abbrev kept : List ℕ → ℕ → List ℕ → ℕ → ℕ → ℕ → Worked
@@ -156,11 +156,11 @@ ranges =
     ∷ outside 16 100001
     ∷ outside 17 100001
     ∷ outside 18 2
-    -- every field at its least number, and every field but the first two at its greatest: in range, and 11
-    ∷ refused (1 ∷ 0 ∷ 1 ∷ 100 ∷ 1 ∷ 1000 ∷ 800 ∷ 1 ∷ 1 ∷ 1 ∷ 1000 ∷ 1 ∷ 1 ∷ 1 ∷ 1 ∷ 0 ∷ 0 ∷ 0 ∷ []) 11 1 0
+    -- every field at its least number, and every field but the first two and the last two at its greatest: in range, and 11
+    ∷ refused (1 ∷ 0 ∷ 1 ∷ 100 ∷ 1 ∷ 1000 ∷ 800 ∷ 1 ∷ 1 ∷ 1 ∷ 1000 ∷ 1 ∷ 1 ∷ 1 ∷ 1 ∷ 0 ∷ 0 ∷ 0 ∷ 0 ∷ 0 ∷ []) 11 1 0
     ∷ refused
     (1 ∷ 0 ∷ 3 ∷ 500000 ∷ 100000000 ∷ 10000 ∷ 1000 ∷ 100000000 ∷ 100000000 ∷ 100000000 ∷ 2000 ∷ 100000000 ∷ 100000000 ∷ 100000000 ∷
-    3 ∷ 100000 ∷ 100000 ∷ 1 ∷ []) 11 1 0
+    3 ∷ 100000 ∷ 100000 ∷ 1 ∷ 0 ∷ 0 ∷ []) 11 1 0
     ∷ []
 
 -- replacements: what they leave, and every refusal in its order
@@ -193,8 +193,9 @@ replacements =
     -- 10: the place, the new row's length, its field 1, its field 2; before 4
     ∷ kept plantCard 0 (row 1 plant) 10 0 0
     ∷ kept plantCard 4 (row 3 plant) 10 0 0
-    ∷ kept plantCard 1 (take 17 plant) 10 0 0
+    ∷ kept plantCard 1 (take 18 plant) 10 0 0
     ∷ kept plantCard 1 (take 19 plant) 10 0 0
+    ∷ kept plantCard 1 (take 21 plant) 10 0 0
     ∷ kept plantCard 2 (row 1 plant) 10 0 0
     ∷ kept plantCard 1 (row 1 (with plant 1 2 2)) 10 0 0
     ∷ kept plantCard 1 (row 1 (with (with plant 1 2 2) 1 3 4)) 10 0 0
@@ -225,7 +226,7 @@ replacements =
 abbrev link : ℕ → ℕ → ℕ → ℕ → ℕ → List ℕ → List ℕ
 link n feeder work device floor rest =
     n ∷ feeder ∷ 1 ∷ 10000 ∷ work ∷ 1000 ∷ 1000 ∷ 1000000 ∷ 220000 ∷ 264000 ∷ 1000 ∷ 11000 ∷ 1100000 ∷ 1100 ∷ device ∷ floor ∷
-    2000 ∷ 0 ∷ rest
+    2000 ∷ 0 ∷ 0 ∷ 0 ∷ rest
 
 unfoldable pub chain : ℕ → ℕ → ℕ → List ℕ
 chain d₁ d₂ d₃ = link 1 2 100000 d₁ 100 (link 2 3 110000 d₂ 290 (link 3 0 121000 d₃ 490 []))

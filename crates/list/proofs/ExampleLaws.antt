@@ -24,11 +24,11 @@ example-read = refl
 pub example-rows :
     rowsOf example ≡
     record {
-      numbers = 1 ∷ 2 ∷ 1 ∷ 35000 ∷ 180000 ∷ 1500 ∷ 935 ∷ 900000 ∷ 1000000 ∷ 1800000 ∷ 1300 ∷ 50000 ∷ 5000000 ∷ 1000 ∷ 1 ∷ 1900 ∷ 5000 ∷ 1 ∷ [];
+      numbers = 1 ∷ 2 ∷ 1 ∷ 35000 ∷ 180000 ∷ 1500 ∷ 935 ∷ 900000 ∷ 1000000 ∷ 1800000 ∷ 1300 ∷ 50000 ∷ 5000000 ∷ 1000 ∷ 1 ∷ 1900 ∷ 5000 ∷ 1 ∷ 0 ∷ 0 ∷ [];
       names = spelt "F1" ∷ [];
     } ∷
     record {
-      numbers = 2 ∷ 0 ∷ 1 ∷ 35000 ∷ 200000 ∷ 1500 ∷ 935 ∷ 1500000 ∷ 3300000 ∷ 5200000 ∷ 1300 ∷ 50000 ∷ 10000000 ∷ 10000 ∷ 1 ∷ 0 ∷ 3000 ∷ 0 ∷ [];
+      numbers = 2 ∷ 0 ∷ 1 ∷ 35000 ∷ 200000 ∷ 1500 ∷ 935 ∷ 1500000 ∷ 3300000 ∷ 5200000 ∷ 1300 ∷ 50000 ∷ 10000000 ∷ 10000 ∷ 1 ∷ 0 ∷ 3000 ∷ 0 ∷ 0 ∷ 0 ∷ [];
       names = spelt "IN" ∷ [];
     } ∷
     []
@@ -45,6 +45,17 @@ unfolding example first second spelt header columnsOf digitByte plainByte bareBy
     placeFound isName nameLength isComma isCell cellLength afterCell isEnd areCells isLine onto lines lineLength afterLine sameBytes sizeRight
     headed rowLines nextIsLine goodLines linesRead readAs
 example-edges = (refl, refl, refl, refl, refl, refl, refl)
+
+-- [02 §1] a header and a line as they stood before the ratings
+pub ratings-wanted :
+    (reading (spelt "row,name,feeds_from,kind,volts,work,selfstart,return,far,clear,near,factor,low,high,step,device,floor,ceiling,backed") ≡ BadLine 1) ×
+    (reading
+    (header ++ crlfBytes ++ spelt "1,F1,2,1,35000,180000,1500,935,900000,1000000,1800000,1300,50000,5000000,1000,1,1900,5000,1") ≡
+    BadLine 2)
+unfolding spelt header columnsOf digitByte plainByte bareByte crlf passes run digits isNumber plainPart bareEnd nameEnd isFound placeFound isName
+    nameLength isComma isCell cellLength afterCell isEnd areCells isLine onto lines lineLength afterLine sameBytes sizeRight headed rowLines nextIsLine
+    goodLines linesRead readAs
+ratings-wanted = (refl, refl)
 
 -- the names found by their places in the text
 pub example-names : namesAt example 2 (rowPlaces example) ≡ spelt "F1" ∷ spelt "IN" ∷ []

@@ -29,7 +29,7 @@ use Rattle.list.specs.List.{listColumns, ListText, reading, rowsOf}
 -- the header is one line, with a column for each number of a row and one for the name
 pub header-spelt :
     header ≡
-    spelt "row,name,feeds_from,kind,volts,work,selfstart,return,far,clear,near,factor,low,high,step,device,floor,ceiling,backed"
+    spelt "row,name,feeds_from,kind,volts,work,selfstart,return,far,clear,near,factor,low,high,step,device,floor,ceiling,backed,rated_primary,rated_secondary"
 unfolding header spelt
 header-spelt = refl
 

@@ -1,4 +1,4 @@
--- The header line, exactly [01 §6]. Definitions only.
+-- The header line, exactly [01 §6], with the columns that were added [02 §1]. Definitions only.
 use mathlib.Core.List.{List, [], _∷_, _++_}
 use Prim.Native.Nat.{ℕ}
 
@@ -24,6 +24,8 @@ columns =
     (102 ∷ 108 ∷ 111 ∷ 111 ∷ 114 ∷ []) ∷  -- floor
     (99 ∷ 101 ∷ 105 ∷ 108 ∷ 105 ∷ 110 ∷ 103 ∷ []) ∷  -- ceiling
     (98 ∷ 97 ∷ 99 ∷ 107 ∷ 101 ∷ 100 ∷ []) ∷  -- backed
+    (114 ∷ 97 ∷ 116 ∷ 101 ∷ 100 ∷ 95 ∷ 112 ∷ 114 ∷ 105 ∷ 109 ∷ 97 ∷ 114 ∷ 121 ∷ []) ∷  -- rated_primary
+    (114 ∷ 97 ∷ 116 ∷ 101 ∷ 100 ∷ 95 ∷ 115 ∷ 101 ∷ 99 ∷ 111 ∷ 110 ∷ 100 ∷ 97 ∷ 114 ∷ 121 ∷ []) ∷  -- rated_secondary
     []
 
 -- names with commas between

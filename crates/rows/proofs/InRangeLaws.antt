@@ -1,5 +1,5 @@
 -- The tests of a field, a row and its feeding pass exactly what is in range and feeds as section 2 says; what the rows of such a list are.
-use mathlib.Core.Path.{_≡_, refl, ap}
+use mathlib.Core.Path.{_≡_, refl, ap, ap₂}
 use mathlib.Core.Bool.{Bool, true, false, not, cond, _&&_, _||_}
 use mathlib.Core.Logic.{_⊎_, _↔_, inl, inr, ⊎-elim}
 use mathlib.Core.List.{List}
@@ -20,7 +20,8 @@ use Rattle.layout.specs.List.{rows, field, rowAt, boundsAt}
 use Rattle.sides.specs.Sides.{Secondarily}
 use Rattle.layout.specs.Range.{namedCount}
 use Rattle.layout.proofs.RangeLaws.{in-bounds-exactly, within-bounded, bounded-within}
-use Rattle.rows.specs.Tests.{ratingRight, fieldRight, highRight, orderFault, rowFault, faultAfter, rowAtFault, feedsRight, fedWrongly, fieldAnswer, treeAnswer, treeTest, rowsTest}
+use Rattle.rows.specs.Tests.{ratingRight, fieldRight, highRight, orderFault, rowFault, faultAfter, rowAtFault}
+use Rattle.rows.specs.Tests.{feedsRight, fedWrongly, fieldAnswer, treeAnswer, treeTest, rowsTest}
 use Rattle.rows.specs.InRange.{RowInRange, InRange, FieldInRange, FedRightly, Feeds}
 
 -- the test of two ratings is what it says
@@ -125,7 +126,8 @@ module _ (l : List ℕ) (i : ℕ) where
       field l i atLow ≤ field l i atHigh → field l i atHigh * field l i atPrimary ≤ 100000000 * field l i atSecondary → orderFault l i ≡ 0
   unfolding orderFault highRight
   right-order o h =
-      rw (le-leb (field l i atLow) (field l i atHigh) o, le-leb (field l i atHigh * field l i atPrimary) (100000000 * field l i atSecondary) h)
+      ap₂ (λ (a b : Bool). cond a (cond b 0 (atHigh + 1)) (atLow + 1)) (le-leb (field l i atLow) (field l i atHigh) o)
+      (le-leb (field l i atHigh * field l i atPrimary) (100000000 * field l i atSecondary) h)
 
   pub no-fault-row : rowFault l i ≡ 0 → RowInRange l i
   unfolding rowFault

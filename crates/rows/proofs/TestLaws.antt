@@ -16,8 +16,8 @@ use Rattle.answers.specs.declared.Tested.{Tested}
 use Rattle.answers.specs.declared.Tested.the-variants.{Passed, Refused}
 use Rattle.layout.specs.Fields.{atFeeder, atKind, atLow, atHigh, atPrimary, atSecondary}
 use Rattle.layout.specs.List.{rows, field}
-use Rattle.rows.specs.Tests.{fieldRight, highRight, orderFault, faultAfter, rowFault, rowAtFault, feedsRight, fedWrongly, sizeTest, fieldAnswer, fieldsTest, rowsTest}
-use Rattle.rows.specs.Tests.{treeAnswer, treeTest}
+use Rattle.rows.specs.Tests.{fieldRight, highRight, orderFault, faultAfter, rowFault, rowAtFault}
+use Rattle.rows.specs.Tests.{feedsRight, fedWrongly, sizeTest, fieldAnswer, fieldsTest, rowsTest, treeAnswer, treeTest}
 
 -- the tests that the loops search with
 abbrev pub fieldWrong : List ℕ → ℕ → ℕ → Bool

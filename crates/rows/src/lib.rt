@@ -23,7 +23,8 @@ ghost use Rattle.layout.specs.Fields.{boundsTo};
 ghost use Rattle.fold.specs.First.{first};
 ghost use Rattle.layout.specs.List.{field, rows, boundsAt};
 ghost use Rattle.rows.specs.InRange.{FieldInRange};
-ghost use Rattle.rows.specs.Tests.{ratingRight, fieldRight, highRight, orderFault, rowFault, feedsRight, fedWrongly, sizeTest, treeTest, fieldsTest, rowsTest};
+ghost use Rattle.rows.specs.Tests.{ratingRight, fieldRight, highRight, orderFault, rowFault, feedsRight, fedWrongly};
+ghost use Rattle.rows.specs.Tests.{sizeTest, treeTest, fieldsTest, rowsTest};
 
 // A rated secondary beside the rated primary.
 fn rating_right(primary: u64, secondary: u64) -> bool

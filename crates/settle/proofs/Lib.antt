@@ -7,6 +7,7 @@ pub mod LeastPickupLaws
 pub mod MarginLaws
 pub mod MeetsTheorems
 pub mod PickupLaws
+pub mod MultipliedOut
 pub mod OutcomeLaws
 pub mod SameLaws
 pub mod SettledTheorems

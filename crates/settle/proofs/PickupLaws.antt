@@ -54,14 +54,17 @@ module _ (r : Row) (f : Fed) (a : Bounded r) where
       (bound-up b₂ (11 * (f .excess + f .load - reach)) 10 (r .volts) (omega (arith, a .volts-from)) e₂ x)
 
 -- the bound on a cutoff's pickup
-pub cutoff-bound : (r : Row) (b : ℕ) → b ≡ ceilDiv (r .factor * r .clear .0) (1000 * scale (r .ratio)) → (x : ℕ) → leb b x ≡ staysClear r (primaryOf r (keyed x))
+pub cutoff-bound :
+    (r : Row) (b : ℕ) → b ≡ ceilDiv (r .factor * r .clear .0) (1000 * scale (r .ratio)) → (x : ℕ) →
+    leb b x ≡ staysClear r (primaryOf r (keyed x))
 unfolding staysClear
 cutoff-bound r b e x =
     ap (λ (b : ℕ). leb b x) e ∙ ceilDiv-leb (r .factor * r .clear .0) (1000 * scale (r .ratio)) x (omega (arith, scale-from (r .ratio))) ∙
     ap (leb (r .factor * r .clear .0)) (mul-left-comm x 1000 (scale (r .ratio)))
 
 -- an available pickup is at most what the row's rated primary leaves it
-pub found-bounded : (r : Row) → Bounded r → (ok : ℕ → Bool) (x : ℕ) → leastOn (r .low .0) (r .high .0) (r .step .0) ok ≡ At x → x ≤ settingMost (r .ratio .primary)
+pub found-bounded :
+    (r : Row) → Bounded r → (ok : ℕ → Bool) (x : ℕ) → leastOn (r .low .0) (r .high .0) (r .step .0) ok ≡ At x → x ≤ settingMost (r .ratio .primary)
 found-bounded r a ok x e =
     le-trans (leastOn-least (r .low .0) (r .high .0) (r .step .0) (a .step-from) ok x e .available .within) (a .high-to)
 

@@ -1,5 +1,6 @@
--- [01 §3], [02 §1] The conditions, each against its line of the section; they are judged on primary currents, in fifths of a mA on both sides. Source document 000 departs from P2: it names only the
--- fed row of greatest pickup; section 3 asks it of every fed row. D2 is read with [02 §5]. Definitions only.
+-- [01 §3], [02 §1] The conditions, each against its line of the section. They are judged on primary currents, which stand in fifths of a mA
+-- on both sides of each line. Source document 000 departs from P2: it names only the fed row of greatest pickup; section 3 asks it of every
+-- fed row. D2 is read with [02 §5]. Definitions only.
 -- v is a view of the list, i and j are rows counted from 0, r and f are rows by their fields: r the row itself, f one that it
 -- feeds; d and e are their devices. I is a primary pickup, C a primary cutoff pickup and t a delay of the row itself; k gives the
 -- settings of each row as they are keyed, and s those of the fed row f.

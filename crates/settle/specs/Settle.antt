@@ -20,7 +20,8 @@ use Rattle.settle.specs.declared.Settled.the-variants.{Set, Unset}
 use Rattle.sides.specs.declared.Primary.{Primary}
 use Rattle.sides.specs.declared.Secondary.{Secondary}
 use Rattle.sides.specs.Sides.{keyed}
-use Rattle.settle.specs.Conditions.{primaryOf, fed, eachFed, returnsAfterSelfStart, clearOf, seesOwnZone, backsUp, withinDelays, gradedAbove, staysClear, seesNear}
+use Rattle.settle.specs.Conditions.{primaryOf, fed, eachFed, returnsAfterSelfStart, clearOf, seesOwnZone, backsUp}
+use Rattle.settle.specs.Conditions.{withinDelays, gradedAbove, staysClear, seesNear}
 
 -- pickup I of row i meets P1 and P2, the bounds from below
 unfoldable pub meetsLower : View → Settings → ℕ → Primary → Bool

@@ -10,6 +10,7 @@ use layout::CardRow;
 use layout::FIELDS;
 use layout::Row;
 use layout::row_at;
+use sides::FIFTHS;
 use sides::Primary;
 use sides::Secondary;
 use sides::in_primary;
@@ -22,7 +23,8 @@ ghost use Rattle.layout.specs.Range.{Bounded};
 ghost use Rattle.layout.specs.View.{viewOf};
 ghost use Rattle.sides.specs.Sides.{keyed, settingMost};
 ghost use Rattle.settle.specs.Conditions.{primaryOf, seesOwnZone, backsUp, staysClear, seesNear, margin, marginBetween};
-ghost use Rattle.settle.specs.Fed.{lowerBy, backsUpAll, unbackedBy, pickedBy, delayBy, settledBy, shortfall, asked, PrimaryBounded, FedBounded, CardBounded};
+ghost use Rattle.settle.specs.Fed.{lowerBy, backsUpAll, unbackedBy, pickedBy, delayBy, settledBy, shortfall, asked};
+ghost use Rattle.settle.specs.Fed.{PrimaryBounded, FedBounded, CardBounded};
 ghost use Rattle.settle.specs.Ready.{Listed};
 ghost use Rattle.settle.specs.Settle.{unbacked, firstUnbacked, judged, leastDelay, cutoffOf, printed, shown};
 
@@ -180,11 +182,18 @@ fn sees_near(r: Row, x: Primary) -> bool
     factor * x.0 <= 10 * r.near.0
 }
 
-// The least cutoff pickup, as it is keyed, that stays clear, available or not.
+// Of a cutoff factor in thousandths times a current in fifths of a mA, what makes a whole mA.
+const WHOLE: u64 = 1000 * FIFTHS;
+
+// The least cutoff pickup, as it is keyed, that stays clear, available or not. Without a ratio the divisor is a constant: rounded up by
+// addition, that case stays apart from the other when it is compiled, and no division is left in it.
 fn cutoff_from(r: Row) -> u64
     requires { ⌜ Bounded r ⌝ }
     ensures { λ b. ⌜ ((x : ℕ) → leb b x ≡ staysClear r (primaryOf r (keyed x))) ⌝ }
 {
+    if r.ratio.primary == 0 {
+        return (r.factor * r.clear.0 + (WHOLE - 1)) / WHOLE;
+    }
     let k = scale(r.ratio);
     ceil_div(r.factor * r.clear.0, 1000 * k)
 }

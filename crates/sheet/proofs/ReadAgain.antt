@@ -18,7 +18,10 @@ use Rattle.cursor.specs.Bytes.{digitByte}
 use Rattle.cursor.proofs.ByteTheorem.{digit-exactly}
 use Rattle.layout.specs.Card.{cardRowAt}
 use Rattle.layout.specs.Counts.{columnCount}
+use Rattle.layout.specs.List.{rowAt}
 use Rattle.layout.specs.Range.{CardRowInRange}
+use Rattle.sides.specs.Sides.{settingMost}
+use Rattle.sides.proofs.SidesLaws.{setting-to}
 use Rattle.calculate.proofs.CardRange.{card-in-range, card-length}
 use Rattle.fold.proofs.BoolLaws.{lt-or-le}
 use Rattle.answers.specs.Answer.{givenBy}
@@ -104,17 +107,18 @@ card-rows-count (name ∷ names) card = ap suc (card-rows-count names (drop colu
 header-one-line : NoCrlf cardHeaderLine
 header-one-line = no-cr-no-crlf cardHeaderLine (all-test noCr cardHeaderLine refl)
 
--- a number of a card whose rows are in range is below 1,000,000,000
-in-range-below : (card : List ℕ) (i : ℕ) → CardRowInRange (cardRowAt card (i / columnCount)) → getD card i 0 < 1000000000
-in-range-below card i r = by-column (i % columnCount) refl
+-- a number of a card whose rows are in range, on either side, is below 1,000,000,000
+in-range-below :
+    (primary : ℕ) (card : List ℕ) (i : ℕ) → CardRowInRange (settingMost primary) (cardRowAt card (i / columnCount)) → getD card i 0 < 1000000000
+in-range-below primary card i r = by-column (i % columnCount) refl
   where
     at : (k : ℕ) → i % columnCount ≡ k → i ≡ i / columnCount * columnCount + k
     at k e = omega arith
 
     by-column : (k : ℕ) → i % columnCount ≡ k → getD card i 0 < 1000000000
-    by-column zero e = rw (at 0 e) (omega (arith, r .pickup-to))
+    by-column zero e = rw (at 0 e) (omega (arith, r .pickup-to, setting-to primary))
     by-column (suc zero) e = rw (at 1 e) (omega (arith, r .delay-to))
-    by-column (suc (suc zero)) e = rw (at 2 e) (omega (arith, r .cutoff-to))
+    by-column (suc (suc zero)) e = rw (at 2 e) (omega (arith, r .cutoff-to, setting-to primary))
     by-column (suc (suc (suc k))) e = absurd (omega arith)
 
 module _ (s : List ℕ) (rs : List Row) (size : length s ≤ 65536) (t : ListText s rs) (e : wholeOf rs .answer ≡ Done) where
@@ -133,7 +137,9 @@ module _ (s : List ℕ) (rs : List Row) (size : length s ≤ 65536) (t : ListTex
       let n = numbers-long s rs size t in
       record {
         numbers-there = omega (arith, few, blank-room, card-length (numbersIn rs) blankCard);
-        below = λ i h. in-range-below (wholeOf rs .card) i (card-in-range (numbersIn rs) blankCard e (i / columnCount) (omega arith));
+        below = λ i h.
+            in-range-below (rowAt (numbersIn rs) (i / columnCount) .ratio .primary) (wholeOf rs .card) i
+            (card-in-range (numbersIn rs) blankCard e (i / columnCount) (omega arith));
       }
 
   card-text : Text cardHeaderLine cardColumns (sheetOf s .text) (cardRows (allNames rs) (wholeOf rs .card))

@@ -1,5 +1,5 @@
 -- [02 §1] The ratio: exact, 1 where there is none, and rising, so that lower at the relay is lower in primary; and what fits.
-use mathlib.Core.Path.{_≡_, refl, sym, ap, _∙_}
+use mathlib.Core.Path.{_≡_, refl, ap, ap₂, _∙_}
 use mathlib.Core.Bool.{Bool, true, false, cond}
 use mathlib.Core.Logic.{_↔_, ⊎-elim}
 use Prim.Native.Nat.{ℕ, _*_, _≤_, _<_}
@@ -10,31 +10,32 @@ use borrow.Author.Tests.{eq-eqb, ne-eqb, eqb-true, eqb-false}
 use Rattle.fold.proofs.BoolLaws.{passes-or-fails, lt-or-le}
 use Rattle.sides.specs.declared.Ratio.{Ratio}
 use Rattle.sides.specs.declared.Secondary.{Secondary}
-use Rattle.sides.specs.Sides.{milliamperes, scale, inPrimary, settingMost, Rated}
+use Rattle.sides.specs.Sides.{milliamperes, scale, inPrimary, top, bottom, settingMost, Rated}
 
 module _ (q : Ratio) where
   -- the scale with no ratio, with a rated secondary of 1, and with another
-  pub scale-none : q .primary ≡ 0 → scale q ≡ 5
+  by-cases : {a b : Bool} → eqb (q .primary) 0 ≡ a → eqb (q .secondary) 1 ≡ b → scale q ≡ cond a 5 (cond b (5 * q .primary) (q .primary))
   unfolding scale
-  scale-none e = rw (eq-eqb (q .primary) 0 e)
+  by-cases e f = ap₂ (λ (a b : Bool). cond a 5 (cond b (5 * q .primary) (q .primary))) e f
+
+  pub scale-none : q .primary ≡ 0 → scale q ≡ 5
+  scale-none e = by-cases (eq-eqb (q .primary) 0 e) refl
 
   pub scale-one : (q .primary ≡ 0 → ⊥) → q .secondary ≡ 1 → scale q ≡ 5 * q .primary
-  unfolding scale
-  scale-one n e = rw (ne-eqb (q .primary) 0 n, eq-eqb (q .secondary) 1 e)
+  scale-one n e = by-cases (ne-eqb (q .primary) 0 n) (eq-eqb (q .secondary) 1 e)
 
   pub scale-other : (q .primary ≡ 0 → ⊥) → (q .secondary ≡ 1 → ⊥) → scale q ≡ q .primary
-  unfolding scale
-  scale-other n m = rw (ne-eqb (q .primary) 0 n, ne-eqb (q .secondary) 1 m)
+  scale-other n m = by-cases (ne-eqb (q .primary) 0 n) (ne-eqb (q .secondary) 1 m)
 
   -- it is at least 1
   pub scale-from : 0 < scale q
   unfolding scale
-  scale-from = by-cases (eqb (q .primary) 0) refl (eqb (q .secondary) 1)
+  scale-from = in-each (eqb (q .primary) 0) refl (eqb (q .secondary) 1)
     where
-      by-cases : (a : Bool) → eqb (q .primary) 0 ≡ a → (b : Bool) → 0 < cond a 5 (cond b (5 * q .primary) (q .primary))
-      by-cases true e b = omega arith
-      by-cases false e true = omega (arith, eqb-false (q .primary) 0 e)
-      by-cases false e false = omega (arith, eqb-false (q .primary) 0 e)
+      in-each : (a : Bool) → eqb (q .primary) 0 ≡ a → (b : Bool) → 0 < cond a 5 (cond b (5 * q .primary) (q .primary))
+      in-each true e b = omega arith
+      in-each false e true = omega (arith, eqb-false (q .primary) 0 e)
+      in-each false e false = omega (arith, eqb-false (q .primary) 0 e)
 
   -- "With 0 in both it stays primary"
   pub stays-primary : q .primary ≡ 0 → (x : Secondary) → inPrimary q x ≡ milliamperes (x .0)
@@ -49,6 +50,40 @@ module _ (q : Ratio) where
       (λ (e : q .secondary ≡ 1). rw (scale-one n e, e) (omega (arith, mul-left-comm (x .0) 5 (q .primary))))
       (λ (e : q .secondary ≡ 5). rw (scale-other n (λ o. omega arith), e) (omega arith))
       (a .secondary-fits .one-or-five n)
+
+  -- the same for every row: with 0 in both, the ratio is 1 / 1
+  pub exactly-the-fraction : Rated q → (x : Secondary) → inPrimary q x .0 * bottom q ≡ 5 * (x .0 * top q)
+  unfolding top bottom
+  exactly-the-fraction a x =
+      ⊎-elim
+      (λ (e : eqb (q .primary) 0 ≡ true). rw e (ap (λ (k : ℕ). x .0 * k * 1) (scale-none (eqb-true (q .primary) 0 e)) ∙ omega arith))
+      (λ (e : eqb (q .primary) 0 ≡ false). rw e (exactly-the-ratio a (eqb-false (q .primary) 0 e) x))
+      (passes-or-fails (eqb (q .primary) 0))
+
+  pub bottom-from : Rated q → 0 < bottom q
+  unfolding bottom
+  bottom-from a =
+      ⊎-elim
+      (λ (e : eqb (q .primary) 0 ≡ true). rw e (omega arith))
+      (λ (e : eqb (q .primary) 0 ≡ false).
+      rw e (⊎-elim (λ o. omega arith) (λ f. omega arith) (a .secondary-fits .one-or-five (eqb-false (q .primary) 0 e))))
+      (passes-or-fails (eqb (q .primary) 0))
+
+  pub top-none : q .primary ≡ 0 → top q ≡ 1
+  unfolding top
+  top-none e = ap (λ (b : Bool). cond b 1 (q .primary)) (eq-eqb (q .primary) 0 e)
+
+  pub bottom-none : q .primary ≡ 0 → bottom q ≡ 1
+  unfolding bottom
+  bottom-none e = ap (λ (b : Bool). cond b 1 (q .secondary)) (eq-eqb (q .primary) 0 e)
+
+  pub top-rated : (q .primary ≡ 0 → ⊥) → top q ≡ q .primary
+  unfolding top
+  top-rated n = ap (λ (b : Bool). cond b 1 (q .primary)) (ne-eqb (q .primary) 0 n)
+
+  pub bottom-rated : (q .primary ≡ 0 → ⊥) → bottom q ≡ q .secondary
+  unfolding bottom
+  bottom-rated n = ap (λ (b : Bool). cond b 1 (q .secondary)) (ne-eqb (q .primary) 0 n)
 
   -- "lower means lower in primary"
   pub lower-in-primary : (x y : Secondary) → (x .0 ≤ y .0) ↔ (inPrimary q x .0 ≤ inPrimary q y .0)
@@ -74,12 +109,12 @@ setting-to p = by-cases (eqb p 0)
 module _ (q : Ratio) (a : Rated q) where
   pub scale-to : scale q ≤ 100000
   unfolding scale
-  scale-to = by-cases (eqb (q .primary) 0) (eqb (q .secondary) 1)
+  scale-to = in-each (eqb (q .primary) 0) (eqb (q .secondary) 1)
     where
-      by-cases : (b c : Bool) → cond b 5 (cond c (5 * q .primary) (q .primary)) ≤ 100000
-      by-cases true c = omega arith
-      by-cases false true = omega (arith, a .primary-to)
-      by-cases false false = omega (arith, a .primary-to)
+      in-each : (b c : Bool) → cond b 5 (cond c (5 * q .primary) (q .primary)) ≤ 100000
+      in-each true c = omega arith
+      in-each false true = omega (arith, a .primary-to)
+      in-each false false = omega (arith, a .primary-to)
 
   pub primary-to : (x : Secondary) → x .0 ≤ settingMost (q .primary) → inPrimary q x .0 ≤ 50000000000
   unfolding settingMost

@@ -25,6 +25,13 @@ scale q = cond (eqb (q .primary) 0) 5 (cond (eqb (q .secondary) 1) (5 * q .prima
 abbrev pub inPrimary : Ratio → Secondary → Primary
 inPrimary q x = record { 0 = x .0 * scale q }
 
+-- the ratio as a fraction, top / bottom: rated primary / rated secondary; 1 / 1 with 0 in both. Theorems are stated with it
+unfoldable pub top : Ratio → ℕ
+top q = cond (eqb (q .primary) 0) 1 (q .primary)
+
+unfoldable pub bottom : Ratio → ℕ
+bottom q = cond (eqb (q .primary) 0) 1 (q .secondary)
+
 -- the greatest low, high and step of a row with this rated primary: "where the primary is not 0, .. at most 500,000 mA"
 unfoldable pub settingMost : ℕ → ℕ
 settingMost primary = cond (eqb primary 0) 100000000 500000

@@ -34,10 +34,13 @@ pub fn scale(q: Ratio) -> u64
     }
 }
 
-// The primary current of a number at the relay.
+// The primary current of a number at the relay. Without a ratio it needs no scale, and most rows have none.
 pub fn in_primary(q: Ratio, x: Secondary) -> Primary
     requires { ⌜ Rated q × (x .0 ≤ settingMost (q .primary)) ⌝ }
     ensures { λ r. ⌜ r ≡ inPrimary q x ⌝ }
 {
+    if q.primary == 0 {
+        return Primary(FIFTHS * x.0);
+    }
     Primary(x.0 * scale(q))
 }

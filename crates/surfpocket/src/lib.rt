@@ -65,7 +65,7 @@ pub struct SurfpocketPrinted {
 }
 
 // It grows with every change of what is lent or given.
-const VERSION: u64 = 5;
+const VERSION: u64 = 6;
 
 #[no_mangle]
 pub extern "C" fn surfpocket_version() -> u64

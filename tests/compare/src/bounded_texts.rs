@@ -6,7 +6,7 @@ use crate::run::{Found, Seen};
 use crate::texts::{ample, same};
 use second::answer::*;
 use second::generate::{list_shaped, sized_text, text, Shape};
-use second::row::{FIELDS, MOST_ROWS};
+use second::row::{field, FIELDS, MOST_ROWS};
 use second::text::{card, header, MOST_BYTES};
 
 /// The list of section 6.
@@ -222,10 +222,11 @@ fn numbers() -> Vec<Case> {
     let columns = || (0..=FIELDS).filter(|&column| column != 1);
     let bad = columns().flat_map(|column| BAD.iter().map(move |&cell| (column, cell, BAD_ROW)));
     let nine = columns().map(|column| {
-        let named = Answer::field(1, column.max(1) as u64);
-        (column, &b"999999999"[..], named)
+        // With any rated primary the list's high is too much for a secondary one.
+        let field = if column == field::RATED_PRIMARY { field::HIGH } else { column.max(1) };
+        (column, &b"999999999"[..], Answer::field(1, field as u64))
     });
-    let fits = [(10, &b"100000000"[..], OK), (18, b"0", OK)];
+    let fits = [(10, &b"100000000"[..], OK), (18, b"0", OK), (19, b"0", OK), (20, b"0", OK)];
     bad.chain(nine)
         .chain(fits)
         .map(|(column, cell, wanted)| {

@@ -103,11 +103,36 @@ fn replacements(at: u64, accepted: &Lent, refused: &Refused, seen: &mut Seen) ->
     Ok(())
 }
 
-/// Section 6's list on each side of RANGE, OWN ZONE and BACKUP, worked out by hand.
+/// Section 6's list on each side of RANGE, OWN ZONE and BACKUP, worked out by hand;
+/// then with its rows behind 300/5 and 600/5 A, where 5,300 are 318,000 mA, 2,950 are
+/// 354,000 and 3,850 are 462,000 [02 §1].
 fn documented(_: u64, _: u64, seen: &mut Seen) -> Found {
     let [volts, far, low, high, ceiling] = [4, 8, 12, 13, 17];
     let (range, own_zone) = (|row| Answer::at(RANGE, row), |row| Answer::at(OWN_ZONE, row));
     let (done, backup) = (Answer::DONE, Answer::backup(2, 1));
+    let behind = |row: usize, step: &'static [u8], rated: &'static [u8]| -> [Cell; 5] {
+        [
+            (row, low, b"500"),
+            (row, high, b"150000"),
+            (row, 14, step),
+            (row, 19, rated),
+            (row, 20, b"5"),
+        ]
+    };
+    let secondary = [behind(1, b"10", b"300"), behind(2, b"50", b"600")].concat();
+    let cases: [(&[Cell], Answer); 8] = [
+        (&[], done),
+        (&[(1, high, b"5300")], done),
+        (&[(1, high, b"5299")], range(1)),
+        (&[(2, high, b"2949")], range(2)),
+        (&[(2, far, b"531000")], done),
+        (&[(2, far, b"530999")], own_zone(2)),
+        (&[(2, low, b"3850"), (1, far, b"554400")], done),
+        (&[(2, low, b"3850"), (1, far, b"554399")], backup),
+    ];
+    for (cells, due) in cases {
+        is_given(&[&secondary[..], cells].concat(), due, seen)?;
+    }
     let cases: [(&[Cell], Answer); 13] = [
         (&[(1, high, b"318000")], done),
         (&[(1, high, b"317999")], range(1)),
@@ -124,10 +149,15 @@ fn documented(_: u64, _: u64, seen: &mut Seen) -> Found {
         (&[(2, volts, b"70000"), (1, far, b"863999")], backup),
     ];
     for (cells, due) in cases {
-        let given = texts::same(&with_cells(cells), CARD_ROOM, seen)?;
-        if given != due {
-            return Err(format!("{given:?}, not {due:?}: {cells:?}"));
-        }
+        is_given(cells, due, seen)?;
+    }
+    Ok(())
+}
+
+fn is_given(cells: &[Cell], due: Answer, seen: &mut Seen) -> Found {
+    let given = texts::same(&with_cells(cells), CARD_ROOM, seen)?;
+    if given != due {
+        return Err(format!("{given:?}, not {due:?}: {cells:?}"));
     }
     Ok(())
 }

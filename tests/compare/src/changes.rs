@@ -1,10 +1,10 @@
-//! Replacements, one by one and in series beside the ledger [01 §4, 02 §2, §8].
+//! Replacements, one by one and in series beside the ledger [01 §4, 02 §1, §2, §8].
 
 use crate::answers::{agree_in_rows, item_of, items_of, label};
-use crate::boundary;
 use crate::climbs::Climb;
-use crate::lists::{each_side, row_count, ACCEPTED_ROWS, EQUALITIES, ONE_OFF};
+use crate::lists::{row_count, ACCEPTED_ROWS};
 use crate::run::{Found, Group, Kind, Score, Seen};
+use crate::{boundary, keyed};
 use second::answer::*;
 use second::generate::*;
 use second::replace::{replace, Ledger, Replaced};
@@ -42,16 +42,10 @@ const BY_DEVICE: Group = Group {
     label: |item| format!("own {}, above {}:", EFFECTS[item.0 as usize], EFFECTS[item.1 as usize]),
 };
 
-const SIDES: Group = Group { name: "replacements below, at and above equality", ..EQUALITIES };
+pub const GROUPS: [Group; 5] = [NUMBERS, IN_SERIES, ROWS, ON_FOREIGN, BY_DEVICE];
 
-const ONE_OFF_REPLACED: Group = Group { name: "replacements refused one off equality", ..ONE_OFF };
-
-pub const GROUPS: [Group; 7] =
-    [NUMBERS, IN_SERIES, ROWS, ON_FOREIGN, BY_DEVICE, SIDES, ONE_OFF_REPLACED];
-
-pub const KINDS: [Kind; 5] = [
+pub const KINDS: [Kind; 4] = [
     Kind { name: "replacements on any list and card", cases: 40_000, case: one },
-    Kind { name: "replacements at equality", cases: 600, case: equality },
     Kind { name: "series beside the ledger", cases: 20_000, case: course },
     Kind { name: "long series beside the ledger", cases: 200, case: long_course },
     Kind { name: "series on foreign cards", cases: 5_000, case: foreign_course },
@@ -90,20 +84,6 @@ fn note(group: &Group, list: &[u64], answer: Answer, seen: &mut Seen) {
     seen.note(group, item_of(list, answer));
 }
 
-/// The row that is moved replaced in the list at equality, on its own card.
-fn equality(count: u64, seed: u64, seen: &mut Seen) -> Found {
-    each_side(count, seed, [&SIDES, &ONE_OFF_REPLACED], seen, |lists, side, seen| {
-        let [rows, other] = [1, 0].map(|of| lists[of].as_chunks::<FIELDS>().0);
-        let moved = rows.iter().zip(other).position(|(row, other)| row != other);
-        let at = moved.expect("a row that is moved");
-        let mut card = lent_card(CARD_NUMBERS * rows.len(), seed);
-        whole(&lists[1], &mut card);
-        let row = lists[side][at * FIELDS..][..FIELDS].to_vec();
-        let change = Change { place: at as u64 + 1, row };
-        same(&Replacement { list: lists[1].clone(), card, change }, seen)
-    })
-}
-
 /// An accepted list, a card lent for it, and that card as the whole calculation left it.
 pub fn accepted(seed: u64) -> (Vec<u64>, Vec<u64>, Vec<u64>) {
     let mut rng = Rng::new(seed);
@@ -136,6 +116,7 @@ fn beside_ledger(seed: u64, length: usize, seen: &mut Seen) -> Found {
     let mut ledger = Ledger::new(&list);
     for (step, change) in series(&list.clone(), length, seed).iter().enumerate() {
         let (before, by_device) = (card.clone(), is_device_alone(&list, change));
+        let old_list = list.clone();
         let given = boundary::replace(&mut list, &mut card, change.place, &change.row);
         let answer = ledger.feed(change.place, &change.row);
         let expected = Replaced { answer, rows: ledger.rows() };
@@ -146,6 +127,7 @@ fn beside_ledger(seed: u64, length: usize, seen: &mut Seen) -> Found {
             return Err(format!("list or card differ after step {step} of series {seed}"));
         }
         note(&IN_SERIES, &list, answer, seen);
+        keyed::note_change(&old_list, change, answer, [&before, &card], seen);
         if answer == Answer::DONE {
             Climb::new(&list, change.place, given.rows, [&before, &card]).note_in_series(seen);
         }

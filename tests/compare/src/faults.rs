@@ -20,7 +20,10 @@ pub fn open_to(number: u64, rows: &[u64], lent: &Lent) -> Vec<u64> {
 /// card's pickups, each with that far and backed.
 fn barely_seen(lent: &Lent) -> Vec<Row> {
     let rows: Vec<Row> = lent.list.as_chunks().0.iter().map(Row::read).collect();
-    let pickup = |row: &Row| Settings::read(&lent.card.as_chunks().0[row.row as usize - 1]).pickup;
+    let pickup = |row: &Row| {
+        let card_row = &lent.card.as_chunks().0[row.row as usize - 1];
+        row.primary(Settings::read(card_row).pickup)
+    };
     let barely_seen = |fed: &Row| {
         let row = rows.get((fed.feeds_from as usize).checked_sub(1)?)?;
         let fed = Row { far: zone_bound(pickup(fed)), backed: 1, ..*fed };
@@ -32,13 +35,13 @@ fn barely_seen(lent: &Lent) -> Vec<Row> {
 /// Puts a fault of that number into the list or the card, at that row if it has
 /// one, and leaves what any other number's fault is put into.
 pub fn add_fault(rng: &mut Rng, number: u64, row: u64, lent: &mut Lent) {
-    const IN_RANGE: [usize; 10] = [3, 4, 6, 7, 9, 10, 11, 13, 14, 15];
+    const IN_RANGE: [usize; 12] = [3, 4, 6, 7, 9, 10, 11, 13, 14, 15, 19, 20];
     let rows = lent.list.len() / FIELDS;
     let at = row as usize - 1;
     let unseen = if number == BACKUP { barely_seen(lent) } else { Vec::new() };
     let mut set = |field: usize, value: u64| lent.list[at * FIELDS + field - 1] = value;
     match number {
-        COUNT => lent.list.extend(lent_card(rng.between(1, 17) as usize, 1)),
+        COUNT => lent.list.extend(lent_card(rng.between(1, FIELDS as u64 - 1) as usize, 1)),
         ROOM => lent.card.truncate(CARD_NUMBERS * rows - 1),
         FIELD => set(rng.pick(&IN_RANGE), u64::MAX),
         TREE => set(2, row),

@@ -1,8 +1,8 @@
-//! Whole calculations of lists [01 §4, 02 §2].
+//! Whole calculations of lists [01 §4, 02 §1, §2].
 
-use crate::answers::{agree, item_of, items_of, label, name_of};
-use crate::boundary;
+use crate::answers::{agree, item_of, items_of, label};
 use crate::run::{Found, Group, Item, Kind, Seen};
+use crate::{boundary, keyed};
 use second::answer::*;
 use second::generate::*;
 use second::row::{BOUNDS, CARD_NUMBERS, FIELDS, MOST_ROWS};
@@ -35,29 +35,9 @@ pub const ACCEPTED_VOLTS: Group = Group {
     label: |item| if item.0 == 1 { "one" } else { "several" }.to_string(),
 };
 
-/// A condition by its place in CONDITIONS; one below, at, one above equality.
-pub const EQUALITIES: Group = Group {
-    name: "conditions below, at and above equality",
-    wanted: || (0..CONDITIONS.len() as u64).flat_map(|at| (0..3).map(move |n| (at, n))).collect(),
-    label: |item| {
-        format!("{:?} {}", CONDITIONS[item.0 as usize], ["-1", "=", "+1"][item.1 as usize])
-    },
-};
+pub const GROUPS: [Group; 4] = [NUMBERS, FIELDS_NAMED, ACCEPTED_ROWS, ACCEPTED_VOLTS];
 
-/// A condition by its place, and the number that refuses the list one off its equality.
-pub const ONE_OFF: Group = Group {
-    name: "refusals one off equality",
-    wanted: || {
-        let refusal = |(at, of): (u64, Condition)| of.refusal().map(|number| (at, number));
-        (0..).zip(CONDITIONS).filter_map(refusal).collect()
-    },
-    label: |item| format!("{} by {:?}", name_of(item.1), CONDITIONS[item.0 as usize]),
-};
-
-pub const GROUPS: [Group; 6] =
-    [NUMBERS, FIELDS_NAMED, ACCEPTED_ROWS, ACCEPTED_VOLTS, EQUALITIES, ONE_OFF];
-
-pub const KINDS: [Kind; 11] = [
+pub const KINDS: [Kind; 10] = [
     Kind { name: "chains", cases: 60_000, case: |_, seed, seen| shaped(Shape::Chain, seed, seen) },
     Kind { name: "stars", cases: 60_000, case: |_, seed, seen| shaped(Shape::Star, seed, seen) },
     Kind { name: "trees", cases: 60_000, case: |_, seed, seen| shaped(Shape::Tree, seed, seen) },
@@ -74,8 +54,7 @@ pub const KINDS: [Kind; 11] = [
         case: |_, seed, seen| done(same(&damaged(seed), seen)),
     },
     Kind { name: "fields at their bounds", cases: 120, case: bounds },
-    Kind { name: "conditions at equality", cases: 600, case: equality },
-    Kind { name: "lengths", cases: 5_000, case: length },
+    Kind { name: "lengths", cases: 5_500, case: length },
     Kind { name: "rooms", cases: 1_500, case: rooms },
 ];
 
@@ -98,6 +77,10 @@ pub fn same(lent: &Lent, seen: &mut Seen) -> Result<Answer, String> {
         return Err(format!("{answer:?}, not {expected:?}, or the buffers differ: {lent:?}"));
     }
     note(&lent.list, answer, seen);
+    match answer {
+        Answer::DONE => keyed::note_accepted(&lent.list, &card, seen),
+        refusal => keyed::note_refused(&lent.list, refusal, seen),
+    }
     Ok(answer)
 }
 
@@ -149,33 +132,6 @@ fn bounds(count: u64, seed: u64, seen: &mut Seen) -> Found {
     let list = list_shaped(rng.pick(&SHAPES), rows, rng.any());
     let place = rng.between(1, rows);
     field_bounds(&list, place).into_iter().try_for_each(|list| ample(list, seed, seen))
-}
-
-fn equality(count: u64, seed: u64, seen: &mut Seen) -> Found {
-    each_side(count, seed, [&EQUALITIES, &ONE_OFF], seen, |lists, side, seen| {
-        same(&with_room(lists[side].clone(), seed), seen)
-    })
-}
-
-/// Each condition's list at equality with its neighbours: compares the three one
-/// by one, and notes side and refusal.
-pub fn each_side(
-    count: u64,
-    seed: u64,
-    [sides, refusals]: [&Group; 2],
-    seen: &mut Seen,
-    compare: impl Fn(&[Vec<u64>; 3], usize, &mut Seen) -> Result<Answer, String>,
-) -> Found {
-    let list = list_shaped(SHAPES[count as usize % 4], 1 + count % 12, seed);
-    for (at, condition) in (0..).zip(CONDITIONS) {
-        let Some(lists) = at_equality(&list, condition, seed) else { continue };
-        for side in 0..lists.len() {
-            let answer = compare(&lists, side, seen)?;
-            seen.note(sides, (at, side as u64));
-            seen.note(refusals, (at, answer.number));
-        }
-    }
-    Ok(())
 }
 
 /// A list of every length: rows of a plausible list over and over, or any numbers.

@@ -5,8 +5,8 @@
 use compare::run::{Score, Seen};
 use compare::singles::{self, Part};
 use compare::{
-    answers, boundary, causes, changes, climbs, competing, differentials, lists, studies, texts,
-    verdicts,
+    answers, boundary, causes, changes, climbs, competing, differentials, edges, keyed, lists,
+    ratios, studies, texts, verdicts,
 };
 use std::process::ExitCode;
 use std::time::{Instant, SystemTime, UNIX_EPOCH};
@@ -68,18 +68,27 @@ fn compare_all(seed: u64, Length { passes, all_singles }: Length) -> ExitCode {
     score.count(library == header, &format!("version {library}, the header's {header}"));
     answers::check_header(&mut score);
     score.run(&lists::KINDS, seed, passes, &mut whole);
-    score.run(&[causes::LISTS, competing::LISTS], seed, passes, &mut whole);
+    let more = [edges::LISTS, ratios::LISTS, causes::LISTS, competing::LISTS];
+    score.run(&more, seed, passes, &mut whole);
     let share = 100 * whole.accepted / whole.compared.max(1);
     let line = format!("{} lists, {} accepted, {share} percent", whole.compared, whole.accepted);
     score.count((30..=70).contains(&share), &line);
     score.check_all(&lists::GROUPS, &whole);
+    score.check_all(&keyed::OF_LISTS, &whole);
+    score.check_all(&edges::OF_LISTS, &whole);
+    score.check_all(&ratios::OF_LISTS, &whole);
     score.check(&causes::IN_LISTS, &whole);
     score.check_all(&competing::OF_LISTS, &whole);
     score.run(&changes::KINDS, seed, passes, &mut change);
-    score.run(&[causes::REPLACEMENTS, competing::REPLACEMENTS], seed, passes, &mut change);
+    score.run(&ratios::REPLACEMENTS, seed, passes, &mut change);
+    let more = [edges::REPLACEMENTS, causes::REPLACEMENTS, competing::REPLACEMENTS];
+    score.run(&more, seed, passes, &mut change);
     score.check_all(&changes::GROUPS, &change);
     changes::check_refused(&mut score, &change);
     score.check_all(&climbs::GROUPS, &change);
+    score.check_all(&keyed::OF_REPLACEMENTS, &change);
+    score.check_all(&edges::OF_REPLACEMENTS, &change);
+    score.check_all(&ratios::OF_REPLACEMENTS, &change);
     score.check(&causes::IN_REPLACEMENTS, &change);
     score.check_all(&competing::OF_REPLACEMENTS, &change);
     score.run(&studies::KINDS, seed, passes, &mut study);
@@ -89,10 +98,12 @@ fn compare_all(seed: u64, Length { passes, all_singles }: Length) -> ExitCode {
     score.check_all(&verdicts::GROUPS, &differential);
     score.run(&texts::KINDS, seed, passes, &mut text);
     score.run(&causes::TEXTS, seed, passes, &mut text);
+    score.run(&[ratios::TEXTS], seed, passes, &mut text);
     let line = format!("{} texts, {} accepted", text.compared, text.accepted);
     score.count(text.compared >= LEAST_TEXTS, &line);
     score.check_all(&texts::GROUPS, &text);
     score.check(&causes::IN_TEXTS, &text);
+    score.check_all(&ratios::OF_TEXTS, &text);
     compare_singles(if all_singles { singles::ALL } else { Part::of_seed(seed) }, &mut score);
     println!("compare: {} passed, {} failed", score.passed, score.failed);
     ExitCode::from(u8::from(score.failed > 0))

@@ -6,6 +6,7 @@ use crate::bounded_texts;
 use crate::run::{Found, Group, Kind, Seen};
 use second::answer::*;
 use second::generate::*;
+use second::row::FIELDS;
 use second::text::{card, printed, Printed, MOST_BYTES};
 use std::cmp::Ordering;
 
@@ -49,7 +50,11 @@ pub const GROUPS: [Group; 3] = [NUMBERS, ROOMS, PAIRS];
 
 pub const KINDS: [Kind; 9] = [
     Kind { name: "texts at the bounds", cases: 1, case: bounded_texts::compare },
-    Kind { name: "every byte in every column", cases: 19, case: bounded_texts::every_byte },
+    Kind {
+        name: "every byte in every column",
+        cases: FIELDS as u64 + 1,
+        case: bounded_texts::every_byte,
+    },
     Kind { name: "well-formed texts", cases: 30_000, case: well_formed },
     Kind { name: "texts damaged byte by byte", cases: 24, case: byte_by_byte },
     Kind { name: "damaged texts", cases: 60_000, case: damaged_texts },

@@ -107,7 +107,7 @@ fn each(firsts: &[u64], seconds: &[u64]) -> Vec<Item> {
 
 /// Below where one hundredth more, in the start or the differential, would make
 /// the condition hold; above where one less would break it.
-fn edge(sides: &Sides) -> Option<u64> {
+fn edge(sides: &Sides<u128>) -> Option<u64> {
     match sides.greater as i128 - sides.lesser as i128 {
         -100..0 => Some(BELOW),
         0 => Some(AT),

@@ -25,7 +25,7 @@ pub fn search(rows: &[Row]) -> Result<Vec<Settings>, Answer> {
         if cards.is_empty() {
             return Err(Answer::at(DELAY, row.row));
         }
-        least = least_card(&cards);
+        least = least_card(first, &cards);
     }
     Ok(least)
 }
@@ -37,7 +37,7 @@ pub fn cause(row: &Row, fed: &[Fed]) -> Option<Answer> {
     if clear.is_empty() {
         return Some(Answer::at(RANGE, row.row));
     }
-    if clear.iter().all(|&pickup| !sees_own_zone(row, pickup).hold()) {
+    if clear.iter().all(|&pickup| !sees_own_zone(row, row.primary(pickup)).hold()) {
         return Some(Answer::at(OWN_ZONE, row.row));
     }
     let unseen = |below: &&Fed| clear.iter().all(|&pickup| !is_backed_up(row, pickup, below));
@@ -50,18 +50,21 @@ pub fn some_pickup_fits(row: &Row, fed: &[Fed]) -> bool {
 }
 
 fn is_clear(row: &Row, pickup: u64, fed: &[Fed]) -> bool {
+    let pickup = row.primary(pickup);
     returns_after_self_start(row, pickup).hold()
         && stays_clear_of_fed_rows(row, pickup, fed).all(|sides| sides.hold())
 }
 
 fn is_backed_up(row: &Row, pickup: u64, below: &Fed) -> bool {
-    backs_up(row, pickup, &below.row).is_none_or(|sides| sides.hold())
+    backs_up(row, row.primary(pickup), &below.row).is_none_or(|sides| sides.hold())
 }
 
-/// The one card that none goes below in any row.
-fn least_card(cards: &[Vec<Settings>]) -> Vec<Settings> {
+/// The one card that none goes below in any row, pickups in primary [02 §1].
+fn least_card(rows: &[Row], cards: &[Vec<Settings>]) -> Vec<Settings> {
     let goes_below = |card: &[Settings], other: &[Settings]| {
-        card.iter().zip(other).any(|(a, b)| a.pickup < b.pickup || a.delay < b.delay)
+        rows.iter()
+            .zip(card.iter().zip(other))
+            .any(|(row, (a, b))| row.primary(a.pickup) < row.primary(b.pickup) || a.delay < b.delay)
     };
     let least = cards.iter().find(|card| !cards.iter().any(|other| goes_below(other, card)));
     least.expect("a least card").clone()
@@ -75,7 +78,7 @@ fn meet_in_all_rows(rows: &[Row], card: &[Settings], condition: Condition) -> bo
 
 fn pickup_holds(row: &Row, set: &Settings, fed: &[Fed]) -> bool {
     is_clear(row, set.pickup, fed)
-        && sees_own_zone(row, set.pickup).hold()
+        && sees_own_zone(row, row.primary(set.pickup)).hold()
         && fed.iter().all(|below| is_backed_up(row, set.pickup, below))
 }
 
@@ -116,6 +119,7 @@ fn available(row: &Row) -> impl Iterator<Item = u64> {
 }
 
 fn cutoff(row: &Row) -> u64 {
-    let least = available(row).find(|&cutoff| cutoff_stays_clear(row, cutoff).hold());
-    least.filter(|&cutoff| cutoff_sees_near(row, cutoff).hold()).unwrap_or(0)
+    let clear = |&cutoff: &u64| cutoff_stays_clear(row, row.primary(cutoff)).hold();
+    let least = available(row).find(clear);
+    least.filter(|&cutoff| cutoff_sees_near(row, row.primary(cutoff)).hold()).unwrap_or(0)
 }

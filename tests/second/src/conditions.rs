@@ -1,6 +1,8 @@
 //! The conditions as section 3 writes them, each a pair of sides, apart from
-//! how an answer is found [01 §3]. Products are taken in u128.
+//! how an answer is found [01 §3]. Pickups and cutoffs are primary and may be
+//! fractions [02 §1]; all else is whole.
 
+use crate::current::{Fraction, Primary};
 use crate::row::{Row, LINE, MOTOR};
 use crate::whole::Settings;
 
@@ -10,13 +12,19 @@ pub struct Fed {
     pub settings: Settings,
 }
 
-/// The sides of one condition: it holds where `greater >= lesser`.
-pub struct Sides {
-    pub greater: u128,
-    pub lesser: u128,
+impl Fed {
+    pub fn pickup(&self) -> Primary {
+        self.row.primary(self.settings.pickup)
+    }
 }
 
-impl Sides {
+/// The sides of one condition: it holds where `greater >= lesser`.
+pub struct Sides<T = Fraction> {
+    pub greater: T,
+    pub lesser: T,
+}
+
+impl<T: PartialOrd> Sides<T> {
     pub fn hold(&self) -> bool {
         self.greater >= self.lesser
     }
@@ -26,62 +34,64 @@ impl Sides {
     }
 }
 
-fn times<const N: usize>(factors: [u64; N]) -> u128 {
-    factors.iter().map(|&factor| u128::from(factor)).product()
+fn whole(number: u64) -> Fraction {
+    Fraction::from(number)
 }
 
 /// P1 [01 §3].
-pub fn returns_after_self_start(row: &Row, pickup: u64) -> Sides {
-    Sides {
-        greater: times([10, pickup, row.return_factor]),
-        lesser: times([11, row.selfstart, row.work]),
-    }
+pub fn returns_after_self_start(row: &Row, Primary(pickup): Primary) -> Sides {
+    Sides { greater: pickup * 10 * row.return_factor, lesser: whole(11) * row.selfstart * row.work }
 }
 
 /// P2, once for every fed row [01 §3].
 pub fn stays_clear_of_fed_rows<'a>(
     row: &'a Row,
-    pickup: u64,
+    Primary(pickup): Primary,
     fed: &'a [Fed],
 ) -> impl Iterator<Item = Sides> + 'a {
+    asked_by_fed_rows(fed)
+        .map(move |asked| Sides { greater: pickup * 10 * row.volts, lesser: asked })
+}
+
+/// The lesser side of P2.
+pub fn asked_by_fed_rows(fed: &[Fed]) -> impl Iterator<Item = Fraction> + '_ {
     (0..fed.len()).map(move |j| {
-        let own = times([fed[j].settings.pickup, fed[j].row.volts]);
-        let mut others = 0;
+        let mut asked = fed[j].pickup().0 * fed[j].row.volts;
         for (k, other) in fed.iter().enumerate() {
             if k != j {
-                others += times([other.row.work, other.row.volts]);
+                asked = asked + whole(other.row.work) * other.row.volts;
             }
         }
-        Sides { greater: times([10, pickup, row.volts]), lesser: 11 * (own + others) }
+        asked * 11
     })
 }
 
 /// P3 [01 §3].
-pub fn sees_own_zone(row: &Row, pickup: u64) -> Sides {
-    Sides { greater: times([10, row.far]), lesser: times([15, pickup]) }
+pub fn sees_own_zone(row: &Row, Primary(pickup): Primary) -> Sides {
+    Sides { greater: whole(10) * row.far, lesser: pickup * 15 }
 }
 
 /// P4 for a fed row; nothing where it has backed 0 [01 §3].
-pub fn backs_up(row: &Row, pickup: u64, fed: &Row) -> Option<Sides> {
+pub fn backs_up(row: &Row, Primary(pickup): Primary, fed: &Row) -> Option<Sides> {
     (fed.backed == 1).then(|| Sides {
-        greater: times([10, fed.far, fed.volts]),
-        lesser: times([12, pickup, row.volts]),
+        greater: whole(10) * fed.far * fed.volts,
+        lesser: pickup * 12 * row.volts,
     })
 }
 
 /// D1, floor [01 §3].
 pub fn not_below_floor(row: &Row, delay: u64) -> Sides {
-    Sides { greater: times([delay]), lesser: times([row.floor]) }
+    Sides { greater: whole(delay), lesser: whole(row.floor) }
 }
 
 /// D1, for a motor [01 §3].
 pub fn not_below_motor_delay(row: &Row, delay: u64) -> Option<Sides> {
-    (row.kind == MOTOR).then(|| Sides { greater: times([delay]), lesser: 100 })
+    (row.kind == MOTOR).then(|| Sides { greater: whole(delay), lesser: whole(100) })
 }
 
 /// D1, ceiling [01 §3].
 pub fn not_above_ceiling(row: &Row, delay: u64) -> Sides {
-    Sides { greater: times([row.ceiling]), lesser: times([delay]) }
+    Sides { greater: whole(row.ceiling), lesser: whole(delay) }
 }
 
 /// The step of a row by its device [01 §3 D2].
@@ -105,18 +115,18 @@ pub fn steps_above_fed_rows<'a>(
     fed: &'a [Fed],
 ) -> impl Iterator<Item = Sides> + 'a {
     fed.iter().map(move |below| Sides {
-        greater: times([delay]),
-        lesser: times([below.settings.delay]) + times([step_between(row, &below.row)]),
+        greater: whole(delay),
+        lesser: whole(below.settings.delay) + whole(step_between(row, &below.row)),
     })
 }
 
 /// Cutoff, the pickup it stays clear with [01 §3].
-pub fn cutoff_stays_clear(row: &Row, cutoff: u64) -> Sides {
-    Sides { greater: times([1_000, cutoff]), lesser: times([row.factor, row.clear]) }
+pub fn cutoff_stays_clear(row: &Row, Primary(cutoff): Primary) -> Sides {
+    Sides { greater: cutoff * 1_000, lesser: whole(row.factor) * row.clear }
 }
 
 /// Cutoff, whether it is fitted at that pickup [01 §3].
-pub fn cutoff_sees_near(row: &Row, cutoff: u64) -> Sides {
+pub fn cutoff_sees_near(row: &Row, Primary(cutoff): Primary) -> Sides {
     let tenths = if row.kind == LINE { 12 } else { 20 };
-    Sides { greater: times([10, row.near]), lesser: times([tenths, cutoff]) }
+    Sides { greater: whole(10) * row.near, lesser: cutoff * tenths }
 }

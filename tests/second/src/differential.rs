@@ -89,13 +89,13 @@ pub fn least_slope(start: u64, through: u64) -> Option<u64> {
 
 /// start + slope × (through − 1) and 1.1 × 0.4 × through, both times 10,000, for
 /// inputs in range.
-pub fn slope_fits(start: u64, slope: u64, through: u64) -> Sides {
+pub fn slope_fits(start: u64, slope: u64, through: u64) -> Sides<u128> {
     let greater = 100 * start + slope * (through - ONE);
     Sides { greater: greater.into(), lesser: (11 * 4 * through).into() }
 }
 
 /// The differential and the characteristic, both times 10,000, for inputs in range.
-pub fn characteristic(start: u64, slope: u64, differential: u64, restraint: u64) -> Sides {
+pub fn characteristic(start: u64, slope: u64, differential: u64, restraint: u64) -> Sides<u128> {
     let rise = if restraint <= BEND { 0 } else { slope * (restraint - ONE) };
     Sides { greater: (100 * differential).into(), lesser: (100 * start + rise).into() }
 }

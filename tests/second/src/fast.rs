@@ -1,8 +1,10 @@
 //! The whole calculation in one pass over the rows, in u64, as the baseline
 //! for speed [01 §4, 02 §2]. Each finished row adds to what its feeder must heed.
 //!
-//! Past the field tests 11 times the load of 255 rows and the excess of one
-//! stays below 2^57, and by P1 a pickup is above its row's work.
+//! A rated secondary is 1 or 5, so every primary pickup is a whole number of
+//! fifths of a mA [02 §1]. Past the field tests 11 times the load of 255 rows and
+//! the excess of one, in fifths, stays below 2^60, and by P1 a pickup is above its
+//! row's work.
 
 use crate::answer::{Answer, DELAY, OWN_ZONE, RANGE};
 use crate::conditions::step_between;
@@ -11,9 +13,9 @@ use crate::row::*;
 /// What the fed rows finished so far ask of their feeder.
 #[derive(Clone, Copy)]
 struct Below {
-    /// Sum of work × volts.
+    /// Sum of work × volts, in fifths.
     load: u64,
-    /// Greatest (pickup − work) × volts.
+    /// Greatest (pickup − work) × volts, in fifths.
     excess: u64,
     /// Least far × volts over backed rows.
     reach: u64,
@@ -21,7 +23,7 @@ struct Below {
     delay: u64,
 }
 
-const NOTHING_BELOW: Below = Below { load: 0, excess: 0, reach: u64::MAX / 10, delay: 0 };
+const NOTHING_BELOW: Below = Below { load: 0, excess: 0, reach: u64::MAX / 50, delay: 0 };
 
 pub fn whole(list: &[u64], card: &mut [u64]) -> Answer {
     let count = match count_and_room(list.len(), card.len()) {
@@ -57,11 +59,31 @@ fn fields_hold(rows: &[[u64; FIELDS]]) -> bool {
     (1..).zip(rows).all(|(place, numbers)| {
         let row = Row::read(numbers);
         let mut hold = (row.row == place) & (row.low <= row.high);
-        for (value, bound) in numbers.iter().zip(&BOUNDS) {
+        for (value, bound) in numbers.iter().zip(bounds_of(numbers)) {
             hold &= value.wrapping_sub(bound.least) <= bound.greatest - bound.least;
         }
-        hold
+        hold && ratio_holds(&row)
     })
+}
+
+/// What no bound says of the last two fields, and high in primary.
+fn ratio_holds(row: &Row) -> bool {
+    match row.rated_primary {
+        0 => row.rated_secondary == 0,
+        rated => {
+            RATED_SECONDARIES.contains(&row.rated_secondary)
+                && row.high * rated <= MOST_CURRENT * row.rated_secondary
+        }
+    }
+}
+
+/// How many fifths of a primary mA the row's available pickups count.
+fn fifths(row: &Row) -> u64 {
+    match row.rated_primary {
+        0 => 5,
+        rated if row.rated_secondary == 1 => 5 * rated,
+        rated => rated,
+    }
 }
 
 fn feeders_hold(rows: &[[u64; FIELDS]]) -> bool {
@@ -83,8 +105,8 @@ fn feeder_of(rows: &[[u64; FIELDS]], row: &Row) -> Option<Row> {
 }
 
 fn heed(below: &mut Below, feeder: &Row, row: &Row, pickup: u64, delay: u64) {
-    below.load += row.work * row.volts;
-    below.excess = below.excess.max((pickup - row.work) * row.volts);
+    below.load += 5 * row.work * row.volts;
+    below.excess = below.excess.max((pickup * fifths(row) - 5 * row.work) * row.volts);
     if row.backed == 1 {
         below.reach = below.reach.min(row.far * row.volts);
     }
@@ -94,26 +116,28 @@ fn heed(below: &mut Below, feeder: &Row, row: &Row, pickup: u64, delay: u64) {
 /// P1 to P4, or else the least pickup for P1 and P2, if any; for the fed row of
 /// greatest excess P2 asks most.
 fn least_pickup(row: &Row, below: &Below) -> Result<u64, Option<u64>> {
-    let own = (11 * row.selfstart * row.work).div_ceil(10 * row.return_factor);
-    let fed = (11 * (below.load + below.excess)).div_ceil(10 * row.volts);
+    let unit = fifths(row);
+    let own = (55 * row.selfstart * row.work).div_ceil(10 * row.return_factor * unit);
+    let fed = (11 * (below.load + below.excess)).div_ceil(10 * row.volts * unit);
     let pickup = least_available(row, own.max(fed)).ok_or(None)?;
-    let seen = 10 * row.far >= 15 * pickup && 10 * below.reach >= 12 * pickup * row.volts;
+    let seen =
+        50 * row.far >= 15 * pickup * unit && 50 * below.reach >= 12 * pickup * unit * row.volts;
     seen.then_some(pickup).ok_or(Some(pickup))
 }
 
 /// Why the least pickup for P1 and P2 does not fit; the fed rows are gone
 /// through again only here.
 fn refusal(rows: &[[u64; FIELDS]], row: &Row, least: Option<u64>) -> Answer {
-    let Some(pickup) = least else {
+    let Some(pickup) = least.map(|pickup| pickup * fifths(row)) else {
         return Answer::at(RANGE, row.row);
     };
-    if 10 * row.far < 15 * pickup {
+    if 50 * row.far < 15 * pickup {
         return Answer::at(OWN_ZONE, row.row);
     }
     let unseen = |fed: &Row| {
         fed.feeds_from == row.row
             && fed.backed == 1
-            && 10 * fed.far * fed.volts < 12 * pickup * row.volts
+            && 50 * fed.far * fed.volts < 12 * pickup * row.volts
     };
     let fed = rows.iter().map(Row::read).find(unseen).expect("the row of least reach");
     Answer::backup(row.row, fed.row)
@@ -127,9 +151,9 @@ fn least_delay(row: &Row, below: &Below) -> Option<u64> {
 }
 
 fn fitted_cutoff(row: &Row) -> u64 {
-    let tenths = if row.kind == LINE { 12 } else { 20 };
-    match least_available(row, (row.factor * row.clear).div_ceil(1_000)) {
-        Some(cutoff) if 10 * row.near >= tenths * cutoff => cutoff,
+    let (unit, tenths) = (fifths(row), if row.kind == LINE { 12 } else { 20 });
+    match least_available(row, (row.factor * row.clear).div_ceil(200 * unit)) {
+        Some(cutoff) if 50 * row.near >= tenths * cutoff * unit => cutoff,
         _ => 0,
     }
 }

@@ -5,6 +5,7 @@
 pub mod answer;
 pub mod brute;
 pub mod conditions;
+pub mod current;
 pub mod differential;
 pub mod fast;
 pub mod generate;

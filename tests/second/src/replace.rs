@@ -2,7 +2,7 @@
 //! compared with [01 §4].
 
 use crate::answer::{Answer, CARD, EDIT};
-use crate::row::{count_and_room, path_of, read_list, CARD_BOUNDS, CARD_NUMBERS, FIELDS};
+use crate::row::{count_and_room, path_of, read_list, Row, CARD_BOUNDS, CARD_NUMBERS, FIELDS};
 use crate::whole::{fed_rows, settle, whole, write_card, Settings};
 
 /// The answer, and how many rows were worked out, 0 on a refusal [02 §8].
@@ -48,7 +48,7 @@ fn settle_path(list: &[u64], card: &[u64], place: u64, row: &[u64]) -> Result<Ma
     let count = count_and_room(list.len(), card.len())?;
     let list = edited(list, place, row).ok_or(Answer::at(EDIT, 0))?;
     let rows = read_list(&list)?;
-    let mut settings = read_card(&card[..CARD_NUMBERS * count])?;
+    let mut settings = read_card(&card[..CARD_NUMBERS * count], &rows, place)?;
     let mut worked_out = 0;
     for next in path_of(&list, place) {
         let at = next as usize - 1;
@@ -78,15 +78,18 @@ pub fn edited(list: &[u64], place: u64, row: &[u64]) -> Option<Vec<u64>> {
     Some(made)
 }
 
-/// The lent card rows, or CARD at the first one out of bounds.
-fn read_card(card: &[u64]) -> Result<Vec<Settings>, Answer> {
-    let rows = card.as_chunks::<CARD_NUMBERS>().0;
-    for (place, numbers) in (1..).zip(rows) {
-        if !numbers.iter().zip(&CARD_BOUNDS).all(|(&value, bound)| bound.holds(value)) {
-            return Err(Answer::at(CARD, place));
+/// The lent card rows, or CARD at the first one out of bounds. Which rows are
+/// secondary is asked of the list as it would be. The replaced row's card row is
+/// of the old row, and the new one may be keyed otherwise [02 §1].
+fn read_card(card: &[u64], rows: &[Row], replaced: u64) -> Result<Vec<Settings>, Answer> {
+    let card = card.as_chunks::<CARD_NUMBERS>().0;
+    for (row, numbers) in rows.iter().zip(card) {
+        let bounds = if row.row == replaced { CARD_BOUNDS } else { row.card_bounds() };
+        if !numbers.iter().zip(bounds).all(|(&value, bound)| bound.holds(value)) {
+            return Err(Answer::at(CARD, row.row));
         }
     }
-    Ok(rows.iter().map(Settings::read).collect())
+    Ok(card.iter().map(Settings::read).collect())
 }
 
 /// The plain ledger: it is fed places and new rows, and holds one list. Beside it

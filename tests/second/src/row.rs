@@ -1,10 +1,14 @@
-//! One row of a list, and the tests on the list itself [01 §2, §4]:
+//! One row of a list, and the tests on the list itself [01 §2, §4, 02 §1]:
 //! COUNT, ROOM, FIELD and TREE.
 
 use crate::answer::{Answer, COUNT, ROOM, TREE};
+use crate::current::{Fraction, Primary, Ratio, Secondary};
 
 pub const MOST_ROWS: usize = 256;
 pub const MOST_CURRENT: u64 = 100_000_000;
+pub const MOST_SECONDARY: u64 = 500_000;
+pub const MOST_RATED: u64 = 20_000;
+pub const RATED_SECONDARIES: [u64; 2] = [1, 5];
 pub const MOST_DELAY: u64 = 100_000;
 
 pub const LINE: u64 = 1;
@@ -25,7 +29,8 @@ impl Bound {
     }
 }
 
-/// The table of section 2 makes the row, its numbers, their bounds and the field numbers.
+/// The table of section 2, and the rated currents [02 §1], make the row, its numbers,
+/// their bounds and the field numbers.
 macro_rules! fields {
     ($($name:ident $number:ident $column:literal $least:literal $greatest:expr;)*) => {
         #[derive(Clone, Copy, Debug, PartialEq, Eq)]
@@ -79,6 +84,28 @@ fields! {
     floor FLOOR "floor" 0 MOST_DELAY;
     ceiling CEILING "ceiling" 0 MOST_DELAY;
     backed BACKED "backed" 0 1;
+    rated_primary RATED_PRIMARY "rated_primary" 0 MOST_RATED;
+    rated_secondary RATED_SECONDARY "rated_secondary" 0 5;
+}
+
+/// The bounds of the fields where there is a rated primary: low, high and step are
+/// secondary then. In field 20 not all between its bounds is allowed [02 §1].
+pub const SECONDARY_BOUNDS: [Bound; FIELDS] = {
+    let mut bounds = BOUNDS;
+    bounds[field::LOW - 1].greatest = MOST_SECONDARY;
+    bounds[field::HIGH - 1].greatest = MOST_SECONDARY;
+    bounds[field::STEP - 1].greatest = MOST_SECONDARY;
+    bounds[field::RATED_SECONDARY - 1].least = 1;
+    bounds
+};
+
+/// The bounds of a row's fields; any rated primary but 0 counts.
+pub fn bounds_of(numbers: &[u64; FIELDS]) -> &'static [Bound; FIELDS] {
+    if numbers[field::RATED_PRIMARY - 1] == 0 {
+        &BOUNDS
+    } else {
+        &SECONDARY_BOUNDS
+    }
 }
 
 /// The columns of a card row with the bounds of CARD.
@@ -88,6 +115,51 @@ pub const CARD_BOUNDS: [Bound; 3] = [
     Bound { column: "cutoff", least: 0, greatest: MOST_CURRENT },
 ];
 pub const CARD_NUMBERS: usize = CARD_BOUNDS.len();
+
+impl Row {
+    /// Nothing where pickups are keyed in primary mA [02 §1].
+    pub fn ratio(&self) -> Option<Ratio> {
+        let ratio = Ratio { primary: self.rated_primary, secondary: self.rated_secondary };
+        (ratio.primary != 0).then_some(ratio)
+    }
+
+    /// What a number among the available pickups or on the card is in the line.
+    pub fn primary(&self, number: u64) -> Primary {
+        match self.ratio() {
+            Some(ratio) => ratio.primary(Secondary(number)),
+            None => Primary(Fraction::from(number)),
+        }
+    }
+
+    /// The least such number that is in the line so much or more.
+    pub fn keyed(&self, least: Primary) -> u64 {
+        match self.ratio() {
+            Some(ratio) => ratio.secondary(least).0,
+            None => least.0.up(),
+        }
+    }
+
+    /// Whether FIELD lets the row in at the place that it names.
+    pub fn is_in_range(&self) -> bool {
+        faulty_field(self.row, &self.numbers()).is_none()
+    }
+
+    /// The greatest high that FIELD lets in.
+    pub fn most_high(&self) -> u64 {
+        match self.ratio() {
+            Some(Ratio { primary, secondary }) => {
+                (MOST_CURRENT * secondary / primary).min(MOST_SECONDARY)
+            }
+            None => MOST_CURRENT,
+        }
+    }
+
+    /// The bounds of CARD for the row where it is not the replaced one [02 §1].
+    pub fn card_bounds(&self) -> [Bound; CARD_NUMBERS] {
+        let most = if self.ratio().is_some() { MOST_SECONDARY } else { MOST_CURRENT };
+        CARD_BOUNDS.map(|bound| Bound { greatest: bound.greatest.min(most), ..bound })
+    }
+}
 
 /// COUNT, then ROOM; the number of rows where both are passed.
 pub fn count_and_room(list_length: usize, card_length: usize) -> Result<usize, Answer> {
@@ -117,14 +189,23 @@ pub fn read_list(list: &[u64]) -> Result<Vec<Row>, Answer> {
 }
 
 fn faulty_field(place: u64, numbers: &[u64; FIELDS]) -> Option<u64> {
-    for (field, (&value, bound)) in (1..).zip(numbers.iter().zip(&BOUNDS)) {
-        let right = if field == 1 { value == place } else { bound.holds(value) };
+    let row = Row::read(numbers);
+    for (field, (&value, bound)) in (1..).zip(numbers.iter().zip(bounds_of(numbers))) {
+        let right = match field {
+            field::ROW => value == place,
+            field::RATED_SECONDARY if row.rated_primary == 0 => value == 0,
+            field::RATED_SECONDARY => RATED_SECONDARIES.contains(&value),
+            _ => bound.holds(value),
+        };
         if !right {
-            return Some(field);
+            return Some(field as u64);
         }
     }
-    let row = Row::read(numbers);
-    (row.low > row.high).then_some(field::LOW as u64)
+    if row.low > row.high {
+        return Some(field::LOW as u64);
+    }
+    let is_too_high = row.primary(row.high) > Primary(Fraction::from(MOST_CURRENT));
+    is_too_high.then_some(field::HIGH as u64)
 }
 
 /// The last row is fed by the source, every other by a later row, never by a motor.

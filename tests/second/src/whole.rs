@@ -7,9 +7,11 @@
 pub use crate::answer::Answer;
 use crate::answer::{DELAY, OWN_ZONE, RANGE};
 use crate::conditions::*;
+use crate::current::Primary;
 use crate::row::{count_and_room, read_list, Row, CARD_NUMBERS, MOST_DELAY};
 
-/// A card row; cutoff 0 is not fitted.
+/// A card row, its pickup and cutoff as the row's relay is keyed [02 §1]; cutoff 0
+/// is not fitted.
 #[derive(Clone, Copy, Debug, PartialEq, Eq)]
 pub struct Settings {
     pub pickup: u64,
@@ -80,14 +82,15 @@ fn least_pickup(row: &Row, fed: &[Fed]) -> Result<u64, Answer> {
         returns_after_self_start(row, pickup).hold()
             && stays_clear_of_fed_rows(row, pickup, fed).all(|sides| sides.hold())
     });
-    let pickup = least.ok_or(Answer::at(RANGE, row.row))?;
+    let least = least.ok_or(Answer::at(RANGE, row.row))?;
+    let pickup = row.primary(least);
     if !sees_own_zone(row, pickup).hold() {
         return Err(Answer::at(OWN_ZONE, row.row));
     }
     let fails = |below: &&Fed| backs_up(row, pickup, &below.row).is_some_and(|s| !s.hold());
     match fed.iter().find(fails) {
         Some(below) => Err(Answer::backup(row.row, below.row.row)),
-        None => Ok(pickup),
+        None => Ok(least),
     }
 }
 
@@ -102,14 +105,14 @@ fn least_delay(row: &Row, fed: &[Fed]) -> Option<u64> {
 
 fn fitted_cutoff(row: &Row) -> Option<u64> {
     let least = least_available(row, |cutoff| cutoff_stays_clear(row, cutoff).hold());
-    least.filter(|&cutoff| cutoff_sees_near(row, cutoff).hold())
+    least.filter(|&cutoff| cutoff_sees_near(row, row.primary(cutoff)).hold())
 }
 
-/// The least of low, low + step, .. up to high where `holds`.
-fn least_available(row: &Row, holds: impl Fn(u64) -> bool) -> Option<u64> {
+/// The least of low, low + step, .. up to high for which `holds` in primary.
+fn least_available(row: &Row, holds: impl Fn(Primary) -> bool) -> Option<u64> {
     let available = |step| row.low + step * row.step;
     let last = (row.high - row.low) / row.step;
-    least_step(last, |step| holds(available(step))).map(available)
+    least_step(last, |step| holds(row.primary(available(step)))).map(available)
 }
 
 /// The least number from 0 to `last` where `holds`, which stays true once it is.

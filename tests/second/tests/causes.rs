@@ -30,6 +30,8 @@ fn rows() -> [Row; 3] {
         floor,
         ceiling: 5_000,
         backed: 1,
+        rated_primary: 0,
+        rated_secondary: 0,
     };
     [
         row(1, 3, 10_000, 100_000, 1_000, 250_800, 100),

@@ -42,6 +42,35 @@ fn ordinary_lists_are_accepted_about_half_the_time() {
     assert!((600..=1_400).contains(&seen[&DONE]));
 }
 
+/// However they are keyed [02 §1].
+#[test]
+fn lists_of_each_keying_are_accepted() {
+    for keyed in KEYED {
+        let accepted = |seed: &u64| {
+            let list = list_keyed(SHAPES[*seed as usize % 4], 1 + seed % 64, keyed, *seed);
+            answer_for(&list) == Answer::DONE
+        };
+        let accepted = (0..400).filter(accepted).count();
+        println!("{keyed:?} lists accepted: {accepted} of 400");
+        assert!((120..=280).contains(&accepted));
+    }
+}
+
+/// The benchmark compares with builds from before [02 §1] on these lists: a sum of
+/// their first 18 fields, made with the last such version.
+#[test]
+fn primary_lists_are_those_of_earlier_versions() {
+    let mut sum = 0_u64;
+    for (shape, rows, seed) in [(0, 64, 3), (1, 128, 4), (2, 256, 5), (3, 256, 6)] {
+        let list = list_keyed(SHAPES[shape], rows, Keyed::Primary, seed);
+        for row in list.as_chunks::<FIELDS>().0 {
+            assert_eq!(row[18..], [0, 0]);
+            row[..18].iter().for_each(|&value| sum = sum.wrapping_mul(31).wrapping_add(value));
+        }
+    }
+    assert_eq!(sum, 14_913_606_987_588_754_405);
+}
+
 #[test]
 fn whole_calculations_give_every_number_and_field() {
     let (mut seen, mut fields) = (Seen::new(), Seen::new());

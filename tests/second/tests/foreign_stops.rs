@@ -30,6 +30,8 @@ fn chain() -> Vec<u64> {
         floor,
         ceiling: 5_000,
         backed: 0,
+        rated_primary: 0,
+        rated_secondary: 0,
     };
     let (first, last) = (row(1, 2, 100_000, 1_000, 1_000), row(4, 0, 1, 50_000, 0));
     numbers_of(&[first, row(2, 3, 1, 1_000, 0), row(3, 4, 1, 10_000, 0), last])

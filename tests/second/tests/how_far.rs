@@ -26,6 +26,8 @@ const fn row(row: u64, feeds_from: u64, work: u64, low: u64, step: u64, floor: u
         floor,
         ceiling: 5_000,
         backed: 0,
+        rated_primary: 0,
+        rated_secondary: 0,
     }
 }
 

@@ -1,5 +1,5 @@
 //! The numbers on each side of section 7, and its traps; the step of [02 §5].
-//! Its two PICKUP cases give OWN ZONE [02 §2].
+//! Its two PICKUP cases give OWN ZONE [02 §2]; its rows end with two zeros [02 §1].
 
 use second::answer::{Answer, DELAY, OWN_ZONE};
 use second::conditions::{stays_clear_of_fed_rows, Fed};
@@ -10,9 +10,9 @@ use second::whole::{whole, Settings};
 
 const LIST: [u64; 2 * FIELDS] = [
     1, 2, 1, 35_000, 180_000, 1_500, 935, 900_000, 1_000_000, 1_800_000, 1_300, 50_000, 5_000_000,
-    1_000, 1, 1_900, 5_000, 1, //
+    1_000, 1, 1_900, 5_000, 1, 0, 0, //
     2, 0, 1, 35_000, 200_000, 1_500, 935, 1_500_000, 3_300_000, 5_200_000, 1_300, 50_000,
-    10_000_000, 10_000, 1, 0, 3_000, 0,
+    10_000_000, 10_000, 1, 0, 3_000, 0, 0, 0,
 ];
 const CARD: [u64; 6] = [318_000, 1_900, 1_300_000, 360_000, 2_200, 4_290_000];
 
@@ -143,8 +143,9 @@ fn two_fed_rows() {
     let feeder = Row::read(LIST[FIELDS..].try_into().unwrap());
     for second in [99_000, 101_000] {
         let fed = [fed(10_000, 100_000), fed(90_000, second)];
-        let holds =
-            |pickup| stays_clear_of_fed_rows(&feeder, pickup, &fed).all(|sides| sides.hold());
+        let holds = |pickup| {
+            stays_clear_of_fed_rows(&feeder, feeder.primary(pickup), &fed).all(|sides| sides.hold())
+        };
         assert!(holds(209_000) && !holds(208_999));
     }
 }

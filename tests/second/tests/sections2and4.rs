@@ -1,4 +1,5 @@
-//! The table of section 2 written out again, and the order of section 4.
+//! The table of section 2 written out again, with the two fields of [02 §1] for rows
+//! that have 0 in both, and the order of section 4.
 
 use second::answer::{Answer, CARD, COUNT, EDIT, OWN_ZONE, ROOM, TREE};
 use second::replace::{replace, Replaced};
@@ -7,8 +8,9 @@ use second::whole::whole;
 
 const MOST: u64 = 100_000_000;
 
-/// Field, least and greatest [01 §2].
-const TABLE: [(usize, u64, u64); FIELDS - 1] = [
+/// Field, least and greatest [01 §2]. With 0 in field 20, field 19 is only to be 0,
+/// which `secondary_fields` has.
+const TABLE: [(usize, u64, u64); FIELDS - 2] = [
     (2, 0, 256),
     (3, 1, 3),
     (4, 100, 500_000),
@@ -26,12 +28,13 @@ const TABLE: [(usize, u64, u64); FIELDS - 1] = [
     (16, 0, 100_000),
     (17, 0, 100_000),
     (18, 0, 1),
+    (20, 0, 0),
 ];
 
 /// Three rows, the first two fed by the third.
 fn list() -> Vec<u64> {
     let row = |row, feeds_from| [row, feeds_from, 1, 100, 1, 1_000, 1_000];
-    let rest = [1_000, 1, 1, 1_000, 1, MOST, 1, 3, 0, 100_000, 0];
+    let rest = [1_000, 1, 1, 1_000, 1, MOST, 1, 3, 0, 100_000, 0, 0, 0];
     [row(1, 3), row(2, 3), row(3, 0)].iter().flat_map(|row| [&row[..], &rest].concat()).collect()
 }
 

@@ -41,7 +41,8 @@ returns : tie.Need-returns Inv-loop μ-loop
 returns c =
     let q = c .before .row-fault .ensures in
     fields-found _ _ _ q
-    (passed-found _ (c .before .before .before .before .before .loop .inv) (c .before .before .before .before .loop-test .taken) (row-wrong _ _ _ q (c .if1 .taken)))
+    (passed-found _ (c .before .before .before .before .before .loop .inv) (c .before .before .before .before .loop-test .taken)
+    (row-wrong _ _ _ q (c .if1 .taken)))
 
 add-i : tie.Need-add-i Inv-loop μ-loop
 add-i c = omega arith

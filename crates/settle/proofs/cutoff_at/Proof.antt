@@ -40,7 +40,8 @@ sees-near-requires c κs =
     let start = at-least-on .before .before in (
       start .pre,
       subst PrimaryBounded (sym (c .in-primary .ensures))
-          (found-fits (start .args .r) (start .pre) _ (found-bounded (start .args .r) (start .pre) _ _ (sym (at-least-on .least-on .ensures) ∙ at-x .x .given .1))),
+          (found-fits (start .args .r) (start .pre) _
+          (found-bounded (start .args .r) (start .pre) _ _ (sym (at-least-on .least-on .ensures) ∙ at-x .x .given .1))),
     )
 
 enum-told : tie.Need-enum-told

@@ -44,7 +44,8 @@ backs-up-all-requires c κs =
 returns-2 : tie.Need-returns-2
 returns-2 c =
     let own-zone = c .before .before in
-    judge-fits _ _ _ _ _ _ (own-zone .before .before .in-primary .ensures) (sym (own-zone .before .sees-own-zone .ensures) ∙ not-false _ (own-zone .if1 .left))
+    judge-fits _ _ _ _ _ _ (own-zone .before .before .in-primary .ensures)
+    (sym (own-zone .before .sees-own-zone .ensures) ∙ not-false _ (own-zone .if1 .left))
     (sym (c .before .backs-up-all .ensures) ∙ c .if2 .taken)
 
 first-unbacked-requires : tie.Need-first-unbacked-requires
@@ -72,7 +73,8 @@ returns-3 c =
     let searched = found .before .before in
     let all = searched .before in
     let own-zone = all .before .before in
-    judge-searched _ _ _ _ _ _ (own-zone .before .before .in-primary .ensures) (sym (own-zone .before .sees-own-zone .ensures) ∙ not-false _ (own-zone .if1 .left))
+    judge-searched _ _ _ _ _ _ (own-zone .before .before .in-primary .ensures)
+    (sym (own-zone .before .sees-own-zone .ensures) ∙ not-false _ (own-zone .if1 .left))
     (sym (all .before .backs-up-all .ensures) ∙ all .if2 .left) _ (sym (searched .first-unbacked .ensures) ∙ found .j .given .1)
 
 returns-4 : tie.Need-returns-4
@@ -81,7 +83,8 @@ returns-4 c =
     let searched = c .before .before in
     let all = searched .before in
     let own-zone = all .before .before in
-    judge-searched _ _ _ _ _ _ (own-zone .before .before .in-primary .ensures) (sym (own-zone .before .sees-own-zone .ensures) ∙ not-false _ (own-zone .if1 .left))
+    judge-searched _ _ _ _ _ _ (own-zone .before .before .in-primary .ensures)
+    (sym (own-zone .before .sees-own-zone .ensures) ∙ not-false _ (own-zone .if1 .left))
     (sym (all .before .backs-up-all .ensures) ∙ all .if2 .left) _ (sym (searched .first-unbacked .ensures) ∙ c .enum-told .given .1)
 
 pub judge-spec : {M : Type 1} → statement M

@@ -1,6 +1,6 @@
 //! Lists refused for one row's pickup, by what P3 and P4 are there [02 §2].
 
-use super::lists::{backup_bound, zone_bound};
+use super::lists::{backup_bound, keyed_at, zone_bound};
 use super::{accepted, Rng};
 use crate::answer::{Answer, OWN_ZONE};
 use crate::conditions::Fed;
@@ -77,9 +77,9 @@ fn put_in(
     let second = rng.between(1, (fed.len() as u64).checked_sub(1)?.max(1)) as usize;
     let pair = [fed.get(rng.below(second as u64) as usize)?, fed.get(second)?];
     let mut row = rows[at];
-    row.low = settings[at].pickup.max(telling_pickup(&row, &pair));
+    row.low = settings[at].pickup.max(keyed_at(&row, telling_pickup(&row, &pair)));
     row.high = row.high.max(row.low);
-    row.far = zone_bound(row.low) - u64::from(!cause.zone_holds);
+    row.far = zone_bound(row.primary(row.low)) - u64::from(!cause.zone_holds);
     // DELAY comes after all of them.
     if rng.chance(50) {
         (row.floor, row.ceiling) = (1, 0);
@@ -92,7 +92,7 @@ fn put_in(
     for (below, backup) in pair.into_iter().zip(cause.backup) {
         rows[below.row.row as usize - 1] = with_backup(below, &row, backup);
     }
-    let fits = rows.iter().all(|row| row.far.max(row.high) <= MOST_CURRENT);
+    let fits = rows.iter().all(|row| row.far <= MOST_CURRENT && row.high <= row.most_high());
     let [first, second] = pair.map(|below| below.row.row);
     let answer = match cause.named {
         Some(of_pair) => Answer::backup(row.row, [first, second][of_pair]),
@@ -104,15 +104,15 @@ fn put_in(
 /// A pickup at which P4 can fail by a little and by more for either row, which
 /// keeps its own zone: by the greater volts once and again.
 fn telling_pickup(row: &Row, pair: &[&Fed; 2]) -> u64 {
-    let own_zone: fn(&Fed) -> u64 = |below| zone_bound(below.settings.pickup) * below.row.volts;
+    let own_zone: fn(&Fed) -> u64 = |below| zone_bound(below.pickup()) * below.row.volts;
     let most = |of: fn(&Fed) -> u64| of(pair[0]).max(of(pair[1]));
     let reach = most(own_zone) + most(|below| below.row.volts);
     10 * reach / (12 * row.volts) + 1
 }
 
 fn with_backup(below: &Fed, row: &Row, backup: Backup) -> Row {
-    let bound = backup_bound(&below.row, row, row.low);
-    let least = zone_bound(below.settings.pickup);
+    let bound = backup_bound(&below.row, row, row.primary(row.low));
+    let least = zone_bound(below.pickup());
     let far = match backup {
         Holds => bound,
         Fails => bound - 1,

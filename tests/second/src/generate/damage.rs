@@ -22,13 +22,14 @@ pub fn lent_card(length: usize, seed: u64) -> Vec<u64> {
 /// it is; then low at and above high.
 pub fn field_bounds(list: &[u64], place: u64) -> Vec<Vec<u64>> {
     let start = (place as usize - 1) * FIELDS;
+    let bounds = bounds_of(&list.as_chunks().0[place as usize - 1]);
     let with = |at: usize, value: u64| {
         let mut moved = list.to_vec();
         moved[start + at] = value;
         moved
     };
     let mut lists = Vec::new();
-    for (at, bound) in BOUNDS.iter().enumerate() {
+    for (at, bound) in bounds.iter().enumerate() {
         let (least, greatest) =
             if at == 0 { (place, place) } else { (bound.least, bound.greatest) };
         let values = [0, least.wrapping_sub(1), least, greatest, greatest + 1, u64::MAX];
@@ -54,10 +55,18 @@ pub fn corners(seed: u64) -> Vec<u64> {
         (row.row, row.feeds_from) = (place, feeds_from);
         row.kind = rng.between(LINE, if feeders.contains(&place) { TRANSFORMER } else { MOTOR });
         row.device = rng.between(1, 3);
-        row.high = row.high.max(row.low);
+        if row.rated_primary == 0 {
+            row.rated_secondary = 0;
+        } else {
+            row.rated_primary = rng.pick(&[1, 200, 1_000, row.rated_primary]);
+            row.rated_secondary = rng.pick(&RATED_SECONDARIES);
+            row.step = row.step.min(MOST_SECONDARY);
+        }
+        row.low = row.low.min(row.most_high());
+        row.high = row.high.min(row.most_high()).max(row.low);
         if ample {
             row = Row { selfstart: 1_000, return_factor: 1_000, far: MOST_CURRENT, ..row };
-            row = Row { low: 1, high: MOST_CURRENT, step: 1, ceiling: MOST_DELAY, ..row };
+            row = Row { low: 1, high: row.most_high(), step: 1, ceiling: MOST_DELAY, ..row };
             row.work = rng.pick(&[1, 1, 60_606_060, 60_606_061]);
             row.floor = rng.pick(&[0, MOST_DELAY - own_step(&row)]);
         }
@@ -88,7 +97,7 @@ fn damage(rng: &mut Rng, list: &mut Vec<u64>) {
     match rng.below(20) {
         0 => list.clear(),
         1 => list.truncate(list.len() - list.len().min(rng.between(1, 17) as usize)),
-        2 => list.extend(lent_card(rng.between(1, 17) as usize, 0)),
+        2 => list.extend(lent_card(rng.between(1, FIELDS as u64 - 1) as usize, 0)),
         3 => *list = list.repeat((MOST_ROWS + 1).div_ceil(count.max(1))),
         4 => *list = lent_card(FIELDS * rng.between(1, 5) as usize, rng.any()),
         5 => *list = list[..list.len().min(FIELDS)].repeat(MOST_ROWS + rng.below(2) as usize),
@@ -106,7 +115,8 @@ fn damage(rng: &mut Rng, list: &mut Vec<u64>) {
 fn scatter(rng: &mut Rng, list: &mut [u64]) {
     for _ in 0..rng.between(1, 6) {
         let at = rng.below(list.len() as u64) as usize;
-        let Bound { least, greatest, .. } = BOUNDS[at % FIELDS];
+        let bounds = list.as_chunks().0.get(at / FIELDS).map_or(&BOUNDS, bounds_of);
+        let Bound { least, greatest, .. } = bounds[at % FIELDS];
         let values = [0, least.wrapping_sub(1), least, greatest, greatest + 1, u64::MAX, rng.any()];
         list[at] = rng.pick(&values);
     }

@@ -1,8 +1,10 @@
 //! Plausible lists: trees, chains and stars, walked from the far end with the
 //! least settings so far, so that margins can be laid on each condition.
 
+use super::ratios::{key_in_secondary, Keyed};
 use super::Rng;
-use crate::conditions::{stays_clear_of_fed_rows, Fed};
+use crate::conditions::{asked_by_fed_rows, Fed};
+use crate::current::{Fraction, Primary};
 use crate::row::*;
 use crate::whole::{fed_rows, settle, Settings};
 
@@ -36,8 +38,15 @@ pub fn list(seed: u64) -> Vec<u64> {
     list_shaped(shape, count, rng.any())
 }
 
+/// A list keyed in any way.
 pub fn list_shaped(shape: Shape, count: u64, seed: u64) -> Vec<u64> {
-    let mut rng = Rng::new(seed);
+    list_keyed(shape, count, Keyed::of_seed(seed), seed)
+}
+
+/// The ratios have their numbers from a stream of their own: all in primary, the
+/// lists are those of earlier versions with two zeros to a row, and times compare.
+pub fn list_keyed(shape: Shape, count: u64, keyed: Keyed, seed: u64) -> Vec<u64> {
+    let (mut rng, mut ratios) = (Rng::new(seed), Rng::new(!seed));
     let feeders = feeders(&mut rng, shape, count);
     let depth = depth(&feeders);
     let faults = [Fault::Zone, Fault::Backup, Fault::Range, Fault::Ceiling];
@@ -49,9 +58,12 @@ pub fn list_shaped(shape: Shape, count: u64, seed: u64) -> Vec<u64> {
         let fault = fault.filter(|&(row, _)| row == place).map(|(_, fault)| fault);
         let mut row = draft(&mut rng, depth, is_leaf, &fed);
         (row.row, row.feeds_from) = (place, feeds_from);
+        if keyed.is_secondary(&mut ratios) {
+            key_in_secondary(&mut ratios, &mut row, asked(&fed), depth > LONG);
+        }
         let set = lay_margins(&mut rng, &mut row, &fed, fault);
         for below in rows.iter_mut().filter(|below: &&mut Row| below.feeds_from == place) {
-            lay_backup(&mut rng, below, &row, set.pickup, fault);
+            lay_backup(&mut rng, below, &row, row.primary(set.pickup), fault);
         }
         rows.push(row);
         settings.push(set);
@@ -80,18 +92,18 @@ fn depth(feeders: &[u64]) -> u64 {
     lengths.into_iter().max().unwrap_or(0)
 }
 
+/// On a longer path too much would be lost to rounding.
+const LONG: u64 = 40;
+
 /// Pickup × volts that P2 asks for.
 fn asked(fed: &[Fed]) -> u64 {
-    let any_row = Row::read(&[1; FIELDS]);
-    let sides = stays_clear_of_fed_rows(&any_row, 1, fed);
-    let most = sides.map(|sides| sides.lesser.div_ceil(10)).max().unwrap_or(0);
-    u64::try_from(most).expect("fields in range")
+    asked_by_fed_rows(fed).map(|asked| asked.over(10).up()).max().unwrap_or(0)
 }
 
 /// A row before its margins, with the widest bounds.
 fn draft(rng: &mut Rng, depth: u64, is_leaf: bool, fed: &[Fed]) -> Row {
     let kind = if is_leaf { rng.between(LINE, MOTOR) } else { rng.between(LINE, TRANSFORMER) };
-    let is_long = depth > 40;
+    let is_long = depth > LONG;
     let (volts, work, step) = if is_long { lean(rng, depth, fed) } else { ample(rng, fed) };
     let selfstart = if is_long { 1_000 } else { 100 * rng.between(10, 30) };
     let return_factor = if is_long { 1_000 } else { rng.pick(&[935, 935, 950, 1_000, 880, 817]) };
@@ -117,6 +129,8 @@ fn draft(rng: &mut Rng, depth: u64, is_leaf: bool, fed: &[Fed]) -> Row {
         floor: if is_leaf { 100 * rng.between(0, 20) } else { rng.pick(&[0, 0, 0, 1, 700]) },
         ceiling: MOST_DELAY,
         backed: 0,
+        rated_primary: 0,
+        rated_secondary: 0,
     }
 }
 
@@ -156,24 +170,33 @@ fn lean(rng: &mut Rng, depth: u64, fed: &[Fed]) -> (u64, u64, u64) {
     (asked.div_ceil(pickup).clamp(100, 500_000), work, 1)
 }
 
+/// The least number on the row's relay that is so many primary mA or more.
+pub fn keyed_at(row: &Row, current: u64) -> u64 {
+    row.keyed(Primary(Fraction::from(current)))
+}
+
 /// Sets all but backup to hold with a margin, often of nothing, save the fault.
 fn lay_margins(rng: &mut Rng, row: &mut Row, fed: &[Fed], fault: Option<Fault>) -> Settings {
     if fault == Some(Fault::Backup) {
         // High enough for P4 to fail where the fed rows keep their own zones.
-        row.low = row.low.max(3 * asked(fed) / (2 * row.volts)).min(MOST_CURRENT);
+        let pickup = keyed_at(row, 3 * asked(fed) / (2 * row.volts));
+        row.low = row.low.max(pickup).min(row.most_high());
     }
     let widest = Settings { pickup: row.high, delay: row.ceiling, cutoff: 0 };
     let set = settle(row, fed).unwrap_or(widest);
+    let pickup = row.primary(set.pickup);
     let most = |current: u64| current.clamp(1, MOST_CURRENT);
-    row.far = most(over(rng, zone_bound(set.pickup)));
-    row.clear = most(set.pickup * rng.between(1, 8));
-    row.high = most(set.pickup.max(row.clear * rng.between(5, 40) / 10));
-    let bound = (row.factor * row.clear).div_ceil(1_000);
+    row.far = most(over(rng, zone_bound(pickup)));
+    row.clear = most(pickup.0.down() * rng.between(1, 8));
+    let above = keyed_at(row, row.clear * rng.between(5, 40) / 10);
+    row.high = set.pickup.max(above).clamp(1, row.most_high());
+    let bound = row.keyed(Primary((Fraction::from(row.factor) * row.clear).over(1_000)));
     let cutoff = row.low + bound.saturating_sub(row.low).div_ceil(row.step) * row.step;
-    row.near = most(cutoff * rng.pick(&[10, 12, 12, 13, 20, 20, 30]) / 10);
+    let tenths = rng.pick(&[10, 12, 12, 13, 20, 20, 30]);
+    row.near = most((row.primary(cutoff).0 * tenths).over(10).down());
     row.ceiling = over(rng, set.delay).min(MOST_DELAY);
     match fault {
-        Some(Fault::Zone) => row.far = most(zone_bound(set.pickup) - 1),
+        Some(Fault::Zone) => row.far = most(zone_bound(pickup) - 1),
         Some(Fault::Range) => row.high = set.pickup.saturating_sub(1).max(row.low),
         Some(Fault::Ceiling) => row.ceiling = set.delay.saturating_sub(1),
         _ => {}
@@ -187,18 +210,18 @@ fn over(rng: &mut Rng, bound: u64) -> u64 {
 }
 
 /// The far that P4 asks of a fed row.
-pub fn backup_bound(below: &Row, row: &Row, pickup: u64) -> u64 {
-    (12 * pickup * row.volts).div_ceil(10 * below.volts)
+pub fn backup_bound(below: &Row, row: &Row, Primary(pickup): Primary) -> u64 {
+    (pickup * 12 * row.volts).over(10 * below.volts).up()
 }
 
 /// The far that P3 asks of a row.
-pub fn zone_bound(pickup: u64) -> u64 {
-    (3 * pickup).div_ceil(2)
+pub fn zone_bound(Primary(pickup): Primary) -> u64 {
+    (pickup * 3).over(2).up()
 }
 
 /// Leaves a fed row without backup, or raises its far to what P4 asks; at fault,
 /// some of the fed rows have less.
-fn lay_backup(rng: &mut Rng, below: &mut Row, row: &Row, pickup: u64, fault: Option<Fault>) {
+fn lay_backup(rng: &mut Rng, below: &mut Row, row: &Row, pickup: Primary, fault: Option<Fault>) {
     let bound = backup_bound(below, row, pickup);
     if fault == Some(Fault::Backup) && rng.chance(60) {
         below.backed = 1;

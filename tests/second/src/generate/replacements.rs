@@ -3,6 +3,7 @@
 
 use super::damage::{damaged, lent_card, Lent};
 use super::lists::{backup_bound, list, zone_bound};
+use super::ratios::keyed_otherwise;
 use super::{accepted, Rng};
 use crate::replace::{edited, Ledger};
 use crate::row::*;
@@ -48,7 +49,7 @@ pub fn change(list: &[u64], seed: u64) -> Change {
     let old = rng.pick(rows);
     let place = old[0];
     let mut row = Row::read(&old);
-    match rng.below(20) {
+    match rng.below(23) {
         0..=2 => return wrong_edit(&mut rng, rows.len() as u64, row),
         3 => return Change { place, row: out_of_range(&mut rng, old) },
         4 => row.kind = MOTOR,
@@ -59,6 +60,7 @@ pub fn change(list: &[u64], seed: u64) -> Change {
         9 => {}
         10 | 11 => row.device = rng.between(1, 3),
         12 => just_fits(&mut rng, list, &mut row),
+        13..=15 if row.is_in_range() => row = keyed_otherwise(&mut rng, &row),
         _ => return Change { place, row: nudged(&mut rng, old) },
     }
     Change { place, row: row.numbers().to_vec() }
@@ -85,11 +87,11 @@ fn just_fits(rng: &mut Rng, list: &[u64], row: &mut Row) {
     let (own, less) = (pickup_of(row.row), rng.below(2));
     match rng.below(4) {
         0 => row.high = (own - less).max(row.low),
-        1 => row.far = zone_bound(own).min(MOST_CURRENT) - less,
+        1 => row.far = zone_bound(row.primary(own)).min(MOST_CURRENT) - less,
         _ if row.feeds_from == 0 => {}
         _ => {
             let feeder = rows[row.feeds_from as usize - 1];
-            let bound = backup_bound(row, &feeder, pickup_of(feeder.row));
+            let bound = backup_bound(row, &feeder, feeder.primary(pickup_of(feeder.row)));
             (row.far, row.backed) = (bound.min(MOST_CURRENT) - less, 1);
         }
     }
@@ -111,7 +113,7 @@ fn wrong_edit(rng: &mut Rng, count: u64, row: Row) -> Change {
 
 fn out_of_range(rng: &mut Rng, mut row: [u64; FIELDS]) -> Vec<u64> {
     let at = rng.between(2, FIELDS as u64 - 1) as usize;
-    let Bound { least, greatest, .. } = BOUNDS[at];
+    let Bound { least, greatest, .. } = bounds_of(&row)[at];
     row[at] = rng.pick(&[least.wrapping_sub(1), greatest + 1, u64::MAX]);
     if rng.chance(20) {
         row[field::LOW - 1] = row[field::LOW].saturating_add(1);
@@ -119,11 +121,15 @@ fn out_of_range(rng: &mut Rng, mut row: [u64; FIELDS]) -> Vec<u64> {
     row.to_vec()
 }
 
-/// One or two fields past the second moved a little or by a factor.
+/// One or two fields past the second moved a little or by a factor; of the ratio
+/// only the rated primary, where there is one.
 fn nudged(rng: &mut Rng, mut row: [u64; FIELDS]) -> Vec<u64> {
+    let bounds = bounds_of(&row);
+    let last =
+        if row[field::RATED_PRIMARY - 1] == 0 { field::BACKED } else { field::RATED_PRIMARY };
     for _ in 0..rng.between(1, 2) {
-        let at = rng.between(2, FIELDS as u64 - 1) as usize;
-        let (value, bound) = (row[at].min(BOUNDS[at].greatest), BOUNDS[at]);
+        let at = rng.between(2, last as u64 - 1) as usize;
+        let (value, bound) = (row[at].min(bounds[at].greatest), bounds[at]);
         let moved = rng.pick(&[
             value + 1,
             value.saturating_sub(1),
@@ -142,12 +148,13 @@ pub fn replacement(seed: u64) -> Replacement {
     let mut rng = Rng::new(seed);
     let list = if rng.chance(80) { list(rng.any()) } else { damaged(rng.any()).list };
     let room = CARD_NUMBERS * list.len() / FIELDS;
-    let mut card: Vec<u64> = (0..room)
-        .map(|at| rng.between(1, if at % CARD_NUMBERS == 1 { 3_000 } else { 1_000_000 }))
-        .collect();
+    let bounds = card_bounds(&list, room);
+    let most = |at: usize| if at % CARD_NUMBERS == 1 { 3_000 } else { 1_000_000 };
+    let mut card: Vec<u64> =
+        (0..room).map(|at| rng.between(1, most(at).min(bounds[at].greatest))).collect();
     let own = whole(&list, &mut card) == Answer::DONE;
     if room > 0 && rng.chance(if own { 70 } else { 20 }) {
-        disturb(&mut rng, &mut card);
+        disturb(&mut rng, &mut card, &bounds);
     }
     match rng.below(10) {
         0 => card.truncate(room - room.min(rng.between(1, 4) as usize)),
@@ -158,14 +165,23 @@ pub fn replacement(seed: u64) -> Replacement {
     Replacement { list, card, change }
 }
 
-/// Some card numbers moved, at times out of their bounds.
-fn disturb(rng: &mut Rng, card: &mut [u64]) {
+/// For each number of a card its bounds off the replaced row [02 §1].
+fn card_bounds(list: &[u64], room: usize) -> Vec<Bound> {
+    let rows = list.as_chunks().0.iter().map(|numbers| Row::read(numbers).card_bounds());
+    let past = std::iter::repeat(CARD_BOUNDS);
+    rows.chain(past).flatten().take(room).collect()
+}
+
+/// Some card numbers moved, at times out of their bounds, the replaced row's perhaps
+/// within its own.
+fn disturb(rng: &mut Rng, card: &mut [u64], bounds: &[Bound]) {
     let in_bounds = rng.chance(70);
     for _ in 0..rng.between(1, 4) {
         let at = rng.below(card.len() as u64) as usize;
-        let Bound { least, greatest, .. } = CARD_BOUNDS[at % CARD_NUMBERS];
+        let Bound { least, greatest, .. } = bounds[at];
+        let most = CARD_BOUNDS[at % CARD_NUMBERS].greatest;
         let near = (card[at].min(greatest) * rng.between(50, 150) / 100).clamp(least, greatest);
-        let out = rng.pick(&[least.wrapping_sub(1), greatest + 1, u64::MAX]);
+        let out = rng.pick(&[least.wrapping_sub(1), greatest + 1, most, most + 1, u64::MAX]);
         card[at] = if in_bounds { rng.pick(&[near, near, least, greatest]) } else { out };
     }
 }
@@ -181,7 +197,7 @@ pub fn foreign(seed: u64) -> Lent {
         if whole(&list, &mut card) == Answer::DONE {
             let which = rng.below(3);
             if which != 0 {
-                move_settings(&mut rng, &mut card[..end]);
+                move_settings(&mut rng, &mut card[..end], &card_bounds(&list, end));
             }
             if which != 1 {
                 move_rows(&mut rng, &mut list);
@@ -201,10 +217,11 @@ fn move_rows(rng: &mut Rng, list: &mut [u64]) {
     }
 }
 
-fn move_settings(rng: &mut Rng, card: &mut [u64]) {
-    for row in card.chunks_exact_mut(CARD_NUMBERS) {
+fn move_settings(rng: &mut Rng, card: &mut [u64], bounds: &[Bound]) {
+    let bounds = bounds.chunks_exact(CARD_NUMBERS);
+    for (row, bounds) in card.chunks_exact_mut(CARD_NUMBERS).zip(bounds) {
         let is_moved = rng.chance(30);
-        for (value, bound) in row.iter_mut().zip(&CARD_BOUNDS) {
+        for (value, bound) in row.iter_mut().zip(bounds) {
             if is_moved && rng.chance(60) {
                 let near = rng.between(*value / 2, 2 * *value + 1);
                 *value = near.clamp(bound.least, bound.greatest);

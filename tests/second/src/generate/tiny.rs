@@ -1,14 +1,19 @@
 //! Lists of one to three rows with few available values, for trying every
-//! combination.
+//! combination, keyed in any way [02 §1].
 
 use super::lists::{backup_bound, feeders, Shape};
+use super::ratios::Keyed;
 use super::Rng;
 use crate::conditions::Fed;
 use crate::row::*;
 use crate::whole::{fed_rows, settle, Settings};
 
+/// Coarse and fine ones, most of whose pickups are no whole primary mA over 5 A.
+const RATIOS: [(u64, u64); 8] = [(1, 1), (2, 1), (3, 1), (1, 5), (3, 5), (7, 5), (12, 5), (20, 5)];
+
 pub fn tiny(seed: u64) -> Vec<u64> {
-    let mut rng = Rng::new(seed);
+    let (mut rng, mut ratios) = (Rng::new(seed), Rng::new(!seed));
+    let keyed = Keyed::of_seed(seed);
     let count = rng.between(1, 3);
     let feeders = feeders(&mut rng, Shape::Tree, count);
     let (mut rows, mut settings) = (Vec::<Row>::new(), Vec::new());
@@ -17,9 +22,13 @@ pub fn tiny(seed: u64) -> Vec<u64> {
         let fed = fed_rows(&rows, &settings, place);
         let mut row = draft(&mut rng, most);
         (row.row, row.feeds_from) = (place, feeds_from);
+        if keyed.is_secondary(&mut ratios) {
+            (row.rated_primary, row.rated_secondary) = ratios.pick(&RATIOS);
+            row.high = row.most_high();
+        }
         let set = narrow(&mut rng, &mut row, &fed);
         for below in rows.iter_mut().filter(|below| below.feeds_from == place) {
-            back_up(&mut rng, below, backup_bound(below, &row, set.pickup));
+            back_up(&mut rng, below, backup_bound(below, &row, row.primary(set.pickup)));
         }
         rows.push(row);
         settings.push(set);
@@ -47,6 +56,8 @@ fn draft(rng: &mut Rng, most_kind: u64) -> Row {
         floor: rng.pick(&[0, 1, 99, 101, 200, 300, 500]),
         ceiling: MOST_DELAY,
         backed: 0,
+        rated_primary: 0,
+        rated_secondary: 0,
     }
 }
 
@@ -59,7 +70,9 @@ fn narrow(rng: &mut Rng, row: &mut Row, fed: &[Fed]) -> Settings {
         row.low = set.pickup - below;
     }
     row.high = row.low + rng.pick(&[0, 1, 2, 2, 3, 3]) * row.step + rng.below(row.step);
-    row.far = (3 * set.pickup / 2).max(2) + rng.below(6) - 1 + rng.pick(&[0, set.pickup]);
+    let pickup = row.primary(set.pickup).0;
+    let zone = (pickup * 3).over(2).down().max(2);
+    row.far = zone + rng.below(6) - 1 + rng.pick(&[0, pickup.down()]);
     row.floor = row.floor.max(set.delay.saturating_sub(rng.below(3)));
     row.ceiling = (set.delay + rng.below(4)).saturating_sub(rng.below(2));
     set

@@ -1,0 +1,37 @@
+-- The table of rows keyed at the secondary side holds, of the definitions that the contracts cite: every case computes to what the
+-- documents say.
+use mathlib.Core.Path.{_≡_, refl}
+use mathlib.Core.List.{map}
+use Rattle.fold.specs.First.{first}
+use Rattle.fold.specs.Fold.{sumTo, every}
+use Rattle.grid.specs.Grid.{count, valueAt, leastOn}
+use Rattle.sides.specs.Sides.{scale, settingMost}
+use Rattle.layout.specs.Card.{putCardRow}
+use Rattle.layout.specs.Fields.{inBounds}
+use Rattle.rows.specs.Tests.{sizeTest, rowsTest, ratingRight, fieldRight, highRight, orderFault, faultAfter, rowFault}
+use Rattle.rows.specs.Tests.{feedsRight, treeAnswer, treeTest, fieldAnswer}
+use Rattle.settle.specs.Conditions.{returnsAfterSelfStart, clearOf, seesOwnZone, backsUp, withinDelays}
+use Rattle.settle.specs.Conditions.{margin, marginBetween, gradedAbove, staysClear, seesNear}
+use Rattle.settle.specs.Settle.{meetsLower, unbacked, firstUnbacked, candidate, byBackup, judged, picked}
+use Rattle.settle.specs.Settle.{meetsDelay, fitting, cutoffOf, printed, shown, outcomeOf, settled}
+use Rattle.rowwise.specs.WorkOut.{onSettled, workOut, upFrom, onPassed}
+use Rattle.calculate.specs.Whole.{ending, calculation, whole}
+use Rattle.cases.specs.Case.{Worked, comes, worked}
+use Rattle.cases.specs.MoreCases.{lent, chain}
+use Rattle.cases.specs.SideCases.{motor, small, underLine, supply, pair, pairCard, onFractions, ratings, lentCards, exchanges, sideTable}
+use Rattle.path.specs.Path.{pathFrom, pathOf}
+use Rattle.path.specs.Reach.{onward, reachFrom}
+use Rattle.change.specs.Edit.{putList, editRight, editTest}
+use Rattle.change.specs.Replace.{reworked, outcome, replaced}
+use Rattle.path.specs.CardTest.{lentMost, withinTable, cardAnswer, cardTest}
+
+pub side-cases : map (λ (w : Worked). comes (w .case)) sideTable ≡ map (λ (w : Worked). w .is) sideTable
+unfolding first sumTo every count valueAt leastOn scale settingMost sizeTest rowsTest inBounds ratingRight fieldRight highRight orderFault faultAfter
+    rowFault feedsRight treeAnswer treeTest fieldAnswer
+    returnsAfterSelfStart clearOf seesOwnZone backsUp withinDelays margin marginBetween gradedAbove staysClear seesNear meetsLower unbacked firstUnbacked
+    candidate byBackup judged picked meetsDelay fitting cutoffOf
+    printed shown outcomeOf settled putCardRow onSettled workOut upFrom ending calculation whole comes worked sideTable onFractions ratings
+    lentCards exchanges lent chain motor small underLine supply pair pairCard pathFrom pathOf onward reachFrom
+    putList editRight editTest lentMost withinTable cardAnswer cardTest onPassed
+    reworked outcome replaced
+side-cases = refl
