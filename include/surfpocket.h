@@ -38,8 +38,8 @@ uint64_t surfpocket_version(void);
 
 /* Sizes. The first two grow in later versions, so use their names.
    A row of a list is SURFPOCKET_SIZE_FIELDS numbers, in the order of the README's table; a row of a card is
-   SURFPOCKET_SIZE_COLUMNS: pickup in mA, delay in ms, cutoff in mA or 0 for none. The last two fields are the current transformer's
-   rated primary and rated secondary in A. With 0 in both, the row's low, high and step and its pickup and cutoff on the card are
+   SURFPOCKET_SIZE_COLUMNS: pickup in mA, delay in ms, cutoff in mA or 0 for none. Fields 19 and 20 are the current transformer's
+   rated primary (0, or 1 to 20,000) and rated secondary (0, 1 or 5) in A. With 0 in both, the row's low, high and step and its pickup and cutoff on the card are
    primary mA; otherwise all five are secondary mA, the number keyed at the relay, and the primary current is that number times the
    rated primary over the rated secondary. All other currents of a row are primary. */
 #define SURFPOCKET_SIZE_FIELDS 20
@@ -132,8 +132,8 @@ typedef struct {
    leaves the card as it was. The card's numbers past its rows stay.
    Order: COUNT (no row, over 256, or a partial row: a length that is no multiple of 20), ROOM (fewer than 3 card numbers a row),
    FIELD over all rows ascending (in a row its fields ascending, then low above high, which is field 12, then high x rated primary
-   above 100,000,000 x rated secondary, which is field 13; where field 19 is not 0, fields 12, 13 and 14 go to 500,000 only; field 20
-   is 1 or 5 there, and 0 where field 19 is 0), TREE over all rows ascending, then row by row RANGE, OWN ZONE or BACKUP before
+   above 100,000,000 x rated secondary, which is field 13; where field 19 is not 0, fields 12 to 14 go to 500,000 in their own turn and
+   field 20 is 1 or 5; otherwise field 20 is 0), TREE over all rows ascending, then row by row RANGE, OWN ZONE or BACKUP before
    DELAY. For RANGE, OWN ZONE and BACKUP the least pickup is taken that the relay offers and that meets P1 and P2: RANGE where there
    is none, OWN ZONE where it fails P3, BACKUP where it passes P3 and fails P4 for a fed row, the first of which is named. No other
    pickup that the relay offers would do either.
@@ -150,6 +150,7 @@ SurfpocketAnswer surfpocket_whole(const uint64_t *list, size_t list_length, uint
    relays that are to be visited. The replaced row itself never stops it, even where its card row stays. Rows past the last are not
    worked out: once CARD is passed they keep what they had and refuse nothing. On the card of an accepted list they are what starting
    afresh would give; on a card that is not the list's they may be anything that CARD lets in.
+   The new row may have other ratings than the old one, or none: its new card row is by the new ones.
    Card rows off the path are read as they are and stay, and so do the card's numbers past its rows.
    Order: COUNT, ROOM, EDIT (no row has that place, the new row is not 20 numbers, or its number or feeder is another), then FIELD
    and TREE over the list as it would be, CARD over all rows ascending (pickup 1 to 100,000,000, delay 0 to 100,000, cutoff 0 to
@@ -158,7 +159,7 @@ SurfpocketAnswer surfpocket_whole(const uint64_t *list, size_t list_length, uint
 SurfpocketReplacement surfpocket_replace(uint64_t *list, size_t list_length, uint64_t *card, size_t card_length, uint64_t place,
                                          const uint64_t *row, size_t row_length);
 
-/* The currents of a study in whole mA: gives DONE with the greatest (for `clear`, field 9) rounded up, the least (for `far`, field
+/* The currents of a study in whole primary mA: gives DONE with the greatest (for `clear`, field 9) rounded up, the least (for `far`, field
    8) rounded down, and both sides of each reading, or STUDY with all six 0. `greatest` always equals `greatest_upper`, and `least`
    always equals `least_lower`. On DONE both are from 1 to 100,000,000; `greatest_lower` is the same as `greatest` or 1 less, so
    perhaps 0, and `least_upper` is the same as `least` or 1 more, so perhaps 100,000,001.

@@ -241,11 +241,11 @@ lentCards =
     ∷ []
 
 -- the pair with its first motor keyed in primary mA: 154,004 by P1 and 154,009 as cutoff, and 20 × 154,009 is above 10 × 308,017
-abbrev inPrimary : List ℕ
-inPrimary = rated (offers pair 1 154000 154020 1) 1 0 0
+abbrev primaryPair : List ℕ
+primaryPair = rated (offers pair 1 154000 154020 1) 1 0 0
 
-abbrev inPrimaryCard : List ℕ
-inPrimaryCard = pairWith 154004 0 16776
+abbrev primaryPairCard : List ℕ
+primaryPairCard = pairWith 154004 0 16776
 
 -- the chain with row n keyed through 100 / 5 A, in steps of 55 mA from `low` on: from 550 on they are the chain's own pickups
 abbrev keyedChain : ℕ → ℕ → List ℕ
@@ -261,18 +261,18 @@ other = 9 ∷ 9 ∷ 9 ∷ 77 ∷ []
 -- a row goes over to the other side
 unfoldable pub exchanges : List Worked
 exchanges =
-    becomes pair pairCard 1 2 inPrimary inPrimaryCard
-    ∷ becomes inPrimary inPrimaryCard 1 2 pair pairCard
+    becomes pair pairCard 1 2 primaryPair primaryPairCard
+    ∷ becomes primaryPair primaryPairCard 1 2 pair pairCard
     -- whatever it was and will be, its card row is held to 100,000,000
-    ∷ becomes pair (set (set pairCard 0 100000000) 2 100000000) 1 2 inPrimary inPrimaryCard
-    ∷ becomes inPrimary (set (set inPrimaryCard 0 100000000) 2 100000000) 1 2 pair pairCard
-    ∷ keptIn pair (set pairCard 0 100000001) 1 (row 1 inPrimary) 9 1 0
-    ∷ keptIn inPrimary (set inPrimaryCard 0 100000001) 1 (row 1 pair) 9 1 0
-    ∷ keptIn pair (set pairCard 2 100000001) 1 (row 1 inPrimary) 9 1 0
-    ∷ keptIn inPrimary (set inPrimaryCard 2 100000001) 1 (row 1 pair) 9 1 0
+    ∷ becomes pair (set (set pairCard 0 100000000) 2 100000000) 1 2 primaryPair primaryPairCard
+    ∷ becomes primaryPair (set (set primaryPairCard 0 100000000) 2 100000000) 1 2 pair pairCard
+    ∷ keptIn pair (set pairCard 0 100000001) 1 (row 1 primaryPair) 9 1 0
+    ∷ keptIn primaryPair (set primaryPairCard 0 100000001) 1 (row 1 pair) 9 1 0
+    ∷ keptIn pair (set pairCard 2 100000001) 1 (row 1 primaryPair) 9 1 0
+    ∷ keptIn primaryPair (set primaryPairCard 2 100000001) 1 (row 1 pair) 9 1 0
     -- the new row is held to what its own ratings allow
     ∷ keptIn pair pairCard 1 (row 1 (offers pair 1 500001 500001 1)) 4 1 12
-    ∷ keptIn inPrimary inPrimaryCard 1 (row 1 (with inPrimary 1 20 5)) 4 1 20
+    ∷ keptIn primaryPair primaryPairCard 1 (row 1 (with primaryPair 1 20 5)) 4 1 20
     -- [02 §8] the chain's first row to the secondary side and back: 5,500 × 20 = 110,000 and 11,000 × 20 = 220,000, so the second row is as it
     -- was and stops the climb
     ∷ becomes (chain 1 1 1) (chainWith 110000 220000 121000 220000 other) 1 2 (keyedChain 1 550) (chainWith 5500 11000 121000 220000 other)

@@ -16,7 +16,7 @@ use Rattle.layout.specs.Card.{column, cardRowAt, columnBoundsTo}
 use Rattle.layout.specs.Counts.{fieldCount, columnCount}
 use Rattle.layout.specs.Fields.{atFeeder, atKind, atVolts, atWork, atSelfstart, atReturn, atFar, atClear, atNear, atFactor, atLow, atHigh, atStep}
 use Rattle.layout.specs.Fields.{atDevice, atFloor, atCeiling, atBacked, atPrimary, atSecondary, leastIn, greatestIn, inBounds}
-use Rattle.sides.specs.Sides.{milliamperes, keyed, Secondarily}
+use Rattle.sides.specs.Sides.{milliamperes, keyed, RatingsFit}
 use Rattle.layout.specs.List.{field, rowAt, boundsAt}
 use Rattle.layout.specs.Range.{Within, namedCount, Bounded, CardRowInRange}
 
@@ -34,7 +34,7 @@ in-bounds-exactly table k x = (
 -- all fields but the first within it, and the two ratings beside each other: the row is as section 2 and request §1 say
 pub within-bounded :
     (l : List ℕ) (i : ℕ) → ((k : ℕ) → 1 ≤ k → k < namedCount → Within (boundsAt l i) k (field l i k)) →
-    Secondarily (field l i atPrimary) (field l i atSecondary) → Bounded (rowAt l i)
+    RatingsFit (field l i atPrimary) (field l i atSecondary) → Bounded (rowAt l i)
 within-bounded l i w s =
     record {
       feeder-to = w atFeeder (omega arith) (omega arith) .1;
@@ -77,7 +77,7 @@ one-below :
 one-below l i k n w below h = below-cases h (λ e. rw e w) below
 
 -- a rated secondary is at most 5
-secondary-to : (p s : ℕ) → Secondarily p s → s ≤ 5
+secondary-to : (p s : ℕ) → RatingsFit p s → s ≤ 5
 secondary-to p s a =
     ⊎-elim
     (λ (e : eqb p 0 ≡ true). omega (arith, a .none (eqb-true p 0 e)))

@@ -13,7 +13,7 @@ use Rattle.sides.specs.Sides.{keyed}
 abbrev pub column : List ℕ → ℕ → ℕ → ℕ
 column c i k = getD c (i * columnCount + k) 0
 
--- card row i, and its columns in their order
+-- card row i, and its columns in their order; its currents are as they are keyed: secondary mA where row i has a ratio, primary mA where not
 abbrev pub cardRowAt : List ℕ → ℕ → CardRow
 cardRowAt c i = record { pickup = keyed (column c i 0); delay = column c i 1; cutoff = keyed (column c i 2) }
 

@@ -17,7 +17,7 @@ abbrev pub namedCount : ℕ
 namedCount = 20
 
 -- the fields that `Row` names lie within section 2's table, primary currents in fifths of a mA; low, high and step within what the row's
--- rated primary leaves them, and the ratio is one
+-- rated primary leaves them, and its two ratings fit each other
 pub record Bounded (r : Row) : Type 0 where
   pub feeder-to : r .feeder ≤ 256
   pub kind-from : 1 ≤ r .kind

@@ -1,5 +1,5 @@
--- What the conditions see of a list: how many rows it has and each by its fields, and the settings of each. Another group of
--- settings, or another side of the current transformer, is another view. Rows are counted from 0. Definitions only.
+-- What the conditions see of a list: how many rows it has and each by its fields, and the settings of each. Another group of settings is
+-- another view. Rows are counted from 0. Definitions only.
 use mathlib.Core.List.{List}
 use Prim.Native.Nat.{ℕ}
 use Rattle.layout.specs.declared.CardRow.{CardRow}

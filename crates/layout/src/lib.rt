@@ -131,7 +131,8 @@ pub fn in_bounds(table: &[u64], k: usize, x: u64) -> bool
     x <= table[2 * k + 1]
 }
 
-// What the conditions read of a row: fields 2 to 20, in the list's order [01 §2], [02 §1]. What the relay offers is on its own side.
+// What the conditions read of a row: fields 2 to 20, in the list's order [01 §2], [02 §1]. Low, high and step are as
+// they are keyed: secondary mA where the row has a ratio, primary mA where not. Other currents are primary.
 pub struct Row {
     pub feeder: u64,
     pub kind: u64,
@@ -190,7 +191,7 @@ pub fn row_at(list: &[u64], i: usize) -> Row
     }
 }
 
-// A card row's columns, in the card's order; the currents as they are keyed.
+// A card row's columns, in the card's order; the currents as they are keyed: secondary mA where the row has a ratio, primary mA where not.
 pub struct CardRow {
     pub pickup: Secondary,
     pub delay: u64,

@@ -18,11 +18,11 @@ use Rattle.path.specs.Path.{onPath}
 use Rattle.path.specs.CardTest.{cardTest}
 
 -- card row j can be tested: it is a row of the list, and the tables of a row without a ratio and of one with a ratio are at hand
-pub record RowReady (l c plain keyed : List ℕ) (j : ℕ) : Type 0 where
+pub record RowReady (l c unrated rated : List ℕ) (j : ℕ) : Type 0 where
   pub is-row : j < rows l
   pub in-card : j * columnCount + columnCount ≤ length c
-  pub plain-is : plain ≡ columnBoundsTo 100000000
-  pub keyed-is : keyed ≡ columnBoundsTo 500000
+  pub unrated-is : unrated ≡ columnBoundsTo 100000000
+  pub rated-is : rated ≡ columnBoundsTo 500000
 
 -- every row off the path of row i is done and none on it, and the sums hold what is asked of the rows on it
 pub record ClimbReady (l : List ℕ) (i : ℕ) (c s : List ℕ) : Type 0 where

@@ -19,6 +19,8 @@ use layout::same_card_row;
 use rowwise::SUMS;
 use rowwise::push;
 use rowwise::work_row;
+use sides::PRIMARY_MOST;
+use sides::SECONDARY_MOST;
 ghost use mathlib.Core.Path.{_≡_};
 ghost use mathlib.Core.Bool.{not, _&&_};
 ghost use Prim.Native.Nat.{_+_, _*_, _<_, _≤_};
@@ -55,18 +57,25 @@ fn within_table(card: &[u64], table: &[u64], j: usize) -> bool
     true
 }
 
-// Card row j is in range, row i being the replaced one: by `keyed` where it has a ratio, by `plain` where not or replaced.
-fn card_right(list: &[u64], i: usize, card: &[u64], plain: &[u64], keyed: &[u64], j: usize) -> bool
-    requires { ⌜ RowReady (now list) (now card) (now plain) (now keyed) j ⌝ }
+// Card row j is in range, row i being the replaced one, which is held to the table of a row without a ratio.
+fn card_right(
+    list: &[u64],
+    i: usize,
+    card: &[u64],
+    unrated: &[u64],
+    rated: &[u64],
+    j: usize,
+) -> bool
+    requires { ⌜ RowReady (now list) (now card) (now unrated) (now rated) j ⌝ }
     ensures { λ r. ⌜ r ≡ cardRight (now (list .entry)) i (now (card .entry)) j ⌝ }
 {
     if j == i {
-        return within_table(card, plain, j);
+        return within_table(card, unrated, j);
     }
     if field_at(list, j, AT_PRIMARY) == 0 {
-        return within_table(card, plain, j);
+        return within_table(card, unrated, j);
     }
-    within_table(card, keyed, j)
+    within_table(card, rated, j)
 }
 
 // The first card row out of range.
@@ -75,11 +84,11 @@ fn first_card_wrong(list: &[u64], i: usize, card: &[u64]) -> Found
     ensures { λ r. ⌜ r ≡ first (λ j. not (cardRight (now (list .entry)) i (now (card .entry)) j)) 0 (rows (now (list .entry))) ⌝ }
 {
     let n = list.len() / FIELDS;
-    let plain = column_bounds(100000000);
-    let keyed = column_bounds(500000);
+    let unrated = column_bounds(PRIMARY_MOST);
+    let rated = column_bounds(SECONDARY_MOST);
     let mut j = 0;
     while j < n {
-        if !card_right(list, i, card, &plain, &keyed, j) {
+        if !card_right(list, i, card, &unrated, &rated, j) {
             return Found::At(j as u64);
         }
         j += 1;

@@ -17,7 +17,7 @@ use Rattle.answers.specs.declared.Tested.{Tested}
 use Rattle.answers.specs.declared.Tested.the-variants.{Passed}
 use Rattle.layout.specs.Fields.{atLow, atHigh, atPrimary, atSecondary, inBounds}
 use Rattle.layout.specs.List.{rows, field, rowAt, boundsAt}
-use Rattle.sides.specs.Sides.{Secondarily}
+use Rattle.sides.specs.Sides.{RatingsFit}
 use Rattle.layout.specs.Range.{namedCount}
 use Rattle.layout.proofs.RangeLaws.{in-bounds-exactly, within-bounded, bounded-within}
 use Rattle.rows.specs.Tests.{ratingRight, fieldRight, highRight, orderFault, rowFault, faultAfter, rowAtFault}
@@ -25,11 +25,11 @@ use Rattle.rows.specs.Tests.{feedsRight, fedWrongly, fieldAnswer, treeAn
 use Rattle.rows.specs.InRange.{RowInRange, InRange, FieldInRange, FedRightly, Feeds}
 
 -- the test of two ratings is what it says
-pub rating-exactly : (p s : ℕ) → (ratingRight p s ≡ true) ↔ Secondarily p s
+pub rating-exactly : (p s : ℕ) → (ratingRight p s ≡ true) ↔ RatingsFit p s
 unfolding ratingRight
 rating-exactly p s = (to, from)
   where
-    to : cond (eqb p 0) (eqb s 0) (eqb s 1 || eqb s 5) ≡ true → Secondarily p s
+    to : cond (eqb p 0) (eqb s 0) (eqb s 1 || eqb s 5) ≡ true → RatingsFit p s
     to e =
         record {
           none = λ z. eqb-true s 0 (rw (eq-eqb p 0 z) at e);
@@ -40,7 +40,7 @@ rating-exactly p s = (to, from)
         either true o h = inl (eqb-true s 1 o)
         either false o h = inr (eqb-true s 5 h)
 
-    from : Secondarily p s → cond (eqb p 0) (eqb s 0) (eqb s 1 || eqb s 5) ≡ true
+    from : RatingsFit p s → cond (eqb p 0) (eqb s 0) (eqb s 1 || eqb s 5) ≡ true
     from a =
         ⊎-elim
         (λ (e : eqb p 0 ≡ true). rw e (eq-eqb s 0 (a .none (eqb-true p 0 e))))

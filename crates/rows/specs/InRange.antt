@@ -13,7 +13,7 @@ use Rattle.layout.specs.Counts.{fieldCount, columnCount, rowsMost}
 use Rattle.layout.specs.Fields.{atPrimary, atSecondary}
 use Rattle.layout.specs.List.{rows, field, rowAt, boundsAt}
 use Rattle.layout.specs.Range.{Within, namedCount, Bounded}
-use Rattle.sides.specs.Sides.{Secondarily}
+use Rattle.sides.specs.Sides.{RatingsFit}
 
 -- a list of 1 to 256 whole rows of 20 numbers
 pub record RightSize (l : List ℕ) : Type 0 where
@@ -52,7 +52,7 @@ Feeds l = (i : ℕ) → i < rows l → FedRightly l i
 pub record FieldInRange (l : List ℕ) (i k : ℕ) : Type 0 where
   pub own-number : k ≡ 0 → field l i k ≡ i + 1
   pub within : 1 ≤ k → Within (boundsAt l i) k (field l i k)
-  pub rating : k ≡ atSecondary → Secondarily (field l i atPrimary) (field l i k)
+  pub rating : k ≡ atSecondary → RatingsFit (field l i atPrimary) (field l i k)
 
 -- field k is the first of row i that is not right by itself; or all are, but low is above high, and k is field 12; or it is not, but high
 -- is above its most, and k is field 13

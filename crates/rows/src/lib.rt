@@ -15,6 +15,10 @@ use layout::LIST;
 use layout::field_at;
 use layout::field_bounds;
 use layout::in_bounds;
+use sides::PRIMARY_MOST;
+use sides::Ratio;
+use sides::SECONDARY_MOST;
+use sides::Secondary;
 ghost use mathlib.Core.Path.{_≡_};
 ghost use Prim.Native.Nat.{ℕ, _+_, _*_, _<_, _≤_};
 ghost use lib.ListN.{length};
@@ -27,19 +31,19 @@ ghost use Rattle.rows.specs.Tests.{ratingRight, fieldRight, highRight, o
 ghost use Rattle.rows.specs.Tests.{sizeTest, treeTest, fieldsTest, rowsTest};
 
 // A rated secondary beside the rated primary.
-fn rating_right(primary: u64, secondary: u64) -> bool
-    ensures { λ r. ⌜ r ≡ ratingRight primary secondary ⌝ }
+fn rating_right(q: Ratio) -> bool
+    ensures { λ r. ⌜ r ≡ ratingRight (q .primary) (q .secondary) ⌝ }
 {
-    if primary == 0 {
-        return secondary == 0;
+    if q.primary == 0 {
+        return q.secondary == 0;
     }
-    if secondary == 1 {
+    if q.secondary == 1 {
         return true;
     }
-    secondary == 5
+    q.secondary == 5
 }
 
-// The table goes by reference: indexed as the constant, it would be made anew for each field.
+// The table goes by reference: made here, it would be made anew for each field.
 fn field_right(list: &[u64], table: &[u64], i: usize, k: usize) -> bool
     requires { ⌜ (i * fieldCount + fieldCount ≤ length (now list)) × (k < fieldCount) × (now table ≡ boundsAt (now list) i) ⌝ }
     ensures { λ r. ⌜ r ≡ fieldRight (now (list .entry)) i k ⌝ }
@@ -52,17 +56,21 @@ fn field_right(list: &[u64], table: &[u64], i: usize, k: usize) -> bool
         return x == (i as u64) + 1;
     }
     if k == AT_SECONDARY {
-        return rating_right(field_at(list, i, AT_PRIMARY), x);
+        let primary = field_at(list, i, AT_PRIMARY);
+        return rating_right(Ratio {
+            primary,
+            secondary: x,
+        });
     }
     true
 }
 
 // High is at most 100,000,000 mA primary; multiplied out, and true with 0 in both ratings.
-fn high_right(high: u64, primary: u64, secondary: u64) -> bool
-    requires { ⌜ (high ≤ 100000000) × (primary ≤ 20000) × (secondary ≤ 5) ⌝ }
-    ensures { λ r. ⌜ r ≡ highRight high primary secondary ⌝ }
+fn high_right(q: Ratio, high: Secondary) -> bool
+    requires { ⌜ (high .0 ≤ 100000000) × (q .primary ≤ 20000) × (q .secondary ≤ 5) ⌝ }
+    ensures { λ r. ⌜ r ≡ highRight (high .0) (q .primary) (q .secondary) ⌝ }
 {
-    high * primary <= 100000000 * secondary
+    high.0 * q.primary <= PRIMARY_MOST * q.secondary
 }
 
 // The field at fault of a row whose fields are each right by themselves, from 1; 0 where there is none.
@@ -75,7 +83,9 @@ fn order_fault(list: &[u64], i: usize) -> u64
         return (AT_LOW as u64) + 1;
     }
     let primary = field_at(list, i, AT_PRIMARY);
-    if high_right(high, primary, field_at(list, i, AT_SECONDARY)) {
+    let secondary = field_at(list, i, AT_SECONDARY);
+    let q = Ratio { primary, secondary };
+    if high_right(q, Secondary(high)) {
         0
     } else {
         (AT_HIGH as u64) + 1
@@ -97,15 +107,15 @@ fn fault_by(list: &[u64], table: &[u64], i: usize) -> u64
     order_fault(list, i)
 }
 
-// The same, the row's table being `plain` without a ratio and `keyed` with one.
-fn row_fault(list: &[u64], plain: &[u64], keyed: &[u64], i: usize) -> u64
-    requires { ⌜ (i * fieldCount + fieldCount ≤ length (now list)) × (now plain ≡ boundsTo 100000000) × (now keyed ≡ boundsTo 500000) ⌝ }
+// The same, by the table of a row without a ratio or that of a row with one.
+fn row_fault(list: &[u64], unrated: &[u64], rated: &[u64], i: usize) -> u64
+    requires { ⌜ (i * fieldCount + fieldCount ≤ length (now list)) × (now unrated ≡ boundsTo 100000000) × (now rated ≡ boundsTo 500000) ⌝ }
     ensures { λ r. ⌜ r ≡ rowFault (now (list .entry)) i ⌝ }
 {
     if field_at(list, i, AT_PRIMARY) == 0 {
-        return fault_by(list, plain, i);
+        return fault_by(list, unrated, i);
     }
-    fault_by(list, keyed, i)
+    fault_by(list, rated, i)
 }
 
 // 4 FIELD over all rows ascending.
@@ -113,11 +123,11 @@ fn test_fields(list: &[u64]) -> Tested
     ensures { λ r. ⌜ r ≡ fieldsTest (now (list .entry)) ⌝ }
 {
     let n = list.len() / FIELDS;
-    let plain = field_bounds(100000000);
-    let keyed = field_bounds(500000);
+    let unrated = field_bounds(PRIMARY_MOST);
+    let rated = field_bounds(SECONDARY_MOST);
     let mut i = 0;
     while i < n {
-        let fault = row_fault(list, &plain, &keyed, i);
+        let fault = row_fault(list, &unrated, &rated, i);
         if fault != 0 {
             return Tested::Refused(Answer::Field((i as u64) + 1, fault));
         }

@@ -4,6 +4,7 @@ pub mod ConditionTheorems
 pub mod CutoffTheorems
 pub mod FedLaws
 pub mod LeastPickupLaws
+pub mod ListRange
 pub mod MarginLaws
 pub mod MeetsTheorems
 pub mod PickupLaws

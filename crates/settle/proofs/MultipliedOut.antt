@@ -18,6 +18,7 @@ use Rattle.sides.specs.declared.Secondary.{Secondary}
 use Rattle.sides.specs.Sides.{top, bottom, Rated}
 use Rattle.sides.proofs.SidesLaws.{exactly-the-fraction, bottom-from}
 use Rattle.settle.specs.Conditions.{primaryOf, pickupAt, fed, othersLoad, returnsAfterSelfStart, clearOf, seesOwnZone, backsUp, staysClear, seesNear}
+use Rattle.settle.specs.Inequalities.{othersWork}
 use Rattle.settle.proofs.ConditionTheorems.{P1-exactly, P2-exactly, P3-exactly, P4-exactly, clear-exactly, near-exactly}
 
 pub both : {A B C : Type 0} → A ↔ B → B ↔ C → A ↔ C
@@ -33,10 +34,6 @@ in-fifths s a b {x} {y} p e f = (
       (λ (g : x ≤ y). g)
       (lt-or-le y x),
 )
-
--- the sum, over the fed rows other than j, of work × volts: by the fields, in mA
-abbrev pub othersWork : List ℕ → ℕ → ℕ → ℕ
-othersWork l i j = sumTo (rows l) (λ k. cond (fed (viewOf l) i k && not (eqb k j)) (field l k atWork * field l k atVolts) 0)
 
 sum-of-fifths : (f g : ℕ → ℕ) (n : ℕ) → ((k : ℕ) → f k ≡ 5 * g k) → sumTo n f ≡ 5 * sumTo n g
 unfolding sumTo
@@ -92,7 +89,8 @@ module _ (l : List ℕ) (i : ℕ) (rated : Rated (rowAt l i .ratio)) (x : Second
 
   pub P3-multiplied : (seesOwnZone (rowAt l i) I ≡ true) ↔ (15 * x .0 * p ≤ 10 * field l i atFar * s)
   P3-multiplied =
-      both (P3-exactly (rowAt l i) I) (in-fifths s (15 * x .0 * p) (10 * field l i atFar * s) s-from (raised-1 15) (omega (arith, fields 10 (field l i atFar) 1 s)))
+      both (P3-exactly (rowAt l i) I)
+      (in-fifths s (15 * x .0 * p) (10 * field l i atFar * s) s-from (raised-1 15) (omega (arith, fields 10 (field l i atFar) 1 s)))
 
   pub clear-multiplied : (staysClear (rowAt l i) I ≡ true) ↔ (field l i atFactor * field l i atClear * s ≤ 1000 * x .0 * p)
   clear-multiplied =

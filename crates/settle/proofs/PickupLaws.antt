@@ -1,24 +1,23 @@
 -- A pickup and a delay judged by the four numbers: lower bounds rounded up, upper tests, and the least value between.
-use mathlib.Core.Path.{_≡_, sym, ap, ap₂, _∙_}
+use mathlib.Core.Path.{_≡_, ap, ap₂, _∙_}
 use mathlib.Core.Bool.{Bool, true, false, not, cond, _&&_, _||_}
-use Prim.Native.Nat.{ℕ, _+_, _-_, _*_, _≤_, _<_, max}
-use native.Mathlib.Nat.{mul-le-mul, mul-left-comm, mul-right-comm, mul-pos, le-trans}
+use Prim.Native.Nat.{ℕ, _+_, _-_, _*_, _≤_, max}
+use native.Mathlib.Nat.{mul-le-mul, mul-right-comm, le-trans}
 use native.Mathlib.Omega.{arith}
 use lib.Dec.{leb, eqb}
 use borrow.Author.Tests.{le-leb}
 use Rattle.fold.specs.declared.Found.{Found}
 use Rattle.fold.specs.declared.Found.the-variants.{At}
-use Rattle.grid.specs.Round.{ceilDiv}
 use Rattle.grid.specs.Grid.{leastOn}
 use Rattle.grid.proofs.GridLaws.{leastOn-same, leastOn-least}
-use Rattle.grid.proofs.RoundLaws.{ceilDiv-leb, max-leb}
+use Rattle.grid.proofs.RoundLaws.{max-leb}
 use Rattle.layout.specs.declared.Row.{Row}
 use Rattle.layout.specs.Range.{Bounded}
 use Rattle.settle.specs.declared.Fed.{Fed}
 use Rattle.sides.specs.declared.Secondary.{Secondary}
-use Rattle.sides.specs.Sides.{keyed, scale, settingMost}
-use Rattle.sides.proofs.SidesLaws.{scale-from, primary-to}
-use Rattle.settle.specs.Conditions.{primaryOf, returnsAfterSelfStart, staysClear, withinDelays}
+use Rattle.sides.specs.Sides.{keyed, settingMost}
+use Rattle.sides.proofs.SidesLaws.{primary-fits}
+use Rattle.settle.specs.Conditions.{primaryOf, returnsAfterSelfStart, withinDelays}
 use Rattle.settle.specs.Fed.{reach, PrimaryBounded, clearOfAll, lowerBy, delayBy}
 use Rattle.settle.specs.Settle.{leastDelay}
 
@@ -30,37 +29,20 @@ current-volts h k = mul-le-mul h k
 pub load-bounded : {r : Row} → Bounded r → r .work .0 * r .volts ≤ 250000000000000
 load-bounded a = current-volts (a .work-to) (a .volts-to)
 
--- the code's x * (n * d * k) is the document's n × I × d of the primary current I
-regroup : (n x d k : ℕ) → x * (n * d * k) ≡ n * (x * k) * d
-regroup n x d k = mul-left-comm x (n * d) k ∙ mul-right-comm n d (x * k)
+-- the two bounds, each in primary, say P1 and P2; n × d × I of the code is the document's n × I × d
+module _ (r : Row) (f : Fed) (x : ℕ) where
+  abbrev I : ℕ
+  I = primaryOf r (keyed x) .0
 
-module _ (r : Row) (f : Fed) (a : Bounded r) where
-  -- a bound rounded up, on the scale of the relay, says the same as the inequality multiplied out in primary
-  bound-up : (b n m d : ℕ) → 0 < m * d → b ≡ ceilDiv n (m * d * scale (r .ratio)) → (x : ℕ) → leb b x ≡ leb n (m * primaryOf r (keyed x) .0 * d)
-  bound-up b n m d h e x =
-      ap (λ (b : ℕ). leb b x) e ∙ ceilDiv-leb n (m * d * scale (r .ratio)) x (mul-pos h (scale-from (r .ratio))) ∙
-      ap (leb n) (regroup m x d (scale (r .ratio)))
-
-  -- the greater of the two bounds says P1 and P2
   pub pickup-bound :
-      (b₁ b₂ : ℕ) → b₁ ≡ ceilDiv (11 * r .selfstart * r .work .0) (10 * r .returnfactor * scale (r .ratio)) →
-      b₂ ≡ ceilDiv (11 * (f .excess + f .load - reach)) (10 * r .volts * scale (r .ratio)) →
-      (x : ℕ) → leb (max b₁ b₂) x ≡ lowerBy r f (primaryOf r (keyed x))
+      (b₁ b₂ : ℕ) → leb b₁ x ≡ leb (11 * r .selfstart * r .work .0) (10 * r .returnfactor * I) →
+      leb b₂ x ≡ leb (11 * (f .excess + f .load - reach)) (10 * r .volts * I) → leb (max b₁ b₂) x ≡ lowerBy r f (primaryOf r (keyed x))
   unfolding lowerBy returnsAfterSelfStart clearOfAll
-  pickup-bound b₁ b₂ e₁ e₂ x =
+  pickup-bound b₁ b₂ e₁ e₂ =
       max-leb b₁ b₂ x ∙
       ap₂ _&&_
-      (bound-up b₁ (11 * r .selfstart * r .work .0) 10 (r .returnfactor) (omega (arith, a .return-from)) e₁ x)
-      (bound-up b₂ (11 * (f .excess + f .load - reach)) 10 (r .volts) (omega (arith, a .volts-from)) e₂ x)
-
--- the bound on a cutoff's pickup
-pub cutoff-bound :
-    (r : Row) (b : ℕ) → b ≡ ceilDiv (r .factor * r .clear .0) (1000 * scale (r .ratio)) → (x : ℕ) →
-    leb b x ≡ staysClear r (primaryOf r (keyed x))
-unfolding staysClear
-cutoff-bound r b e x =
-    ap (λ (b : ℕ). leb b x) e ∙ ceilDiv-leb (r .factor * r .clear .0) (1000 * scale (r .ratio)) x (omega (arith, scale-from (r .ratio))) ∙
-    ap (leb (r .factor * r .clear .0)) (mul-left-comm x 1000 (scale (r .ratio)))
+      (e₁ ∙ ap (leb (11 * r .selfstart * r .work .0)) (mul-right-comm 10 (r .returnfactor) I))
+      (e₂ ∙ ap (leb (11 * (f .excess + f .load - reach))) (mul-right-comm 10 (r .volts) I))
 
 -- an available pickup is at most what the row's rated primary leaves it
 pub found-bounded :
@@ -70,7 +52,7 @@ found-bounded r a ok x e =
 
 -- and its primary current fits
 pub found-fits : (r : Row) → Bounded r → (x : Secondary) → x .0 ≤ settingMost (r .ratio .primary) → PrimaryBounded (primaryOf r x)
-found-fits r a x h = primary-to (r .ratio) (a .rated) x h
+found-fits r a x h = primary-fits (r .ratio) (a .rated) x h
 
 -- a delay between floor and ceiling meets D1 and D2 exactly from the later of the earliest and, for a motor, 100 on
 module _ (r : Row) (f : Fed) where

@@ -1,12 +1,13 @@
 -- [02 §1] "With 0 in both it stays primary": where row i of a list has 0 in both ratings, each condition on a pickup x as it is keyed is
--- section 3's line as it stood before the request, by the fields of the list. P2 names a fed row j, which here has 0 in both too.
+-- section 3's line as it stood before the request, by the fields of the list. P2 names a fed row j: where that has 0 in both too it is the
+-- line as it stood (`P2-stays`), and otherwise the line with that row's pickup through its ratio (`P2-own-stays`).
 use mathlib.Core.Path.{_≡_, ap, ap₂, _∙_}
 use mathlib.Core.Bool.{true}
 use mathlib.Core.Logic.{_↔_}
 use mathlib.Core.List.{List}
 use Prim.Native.Nat.{ℕ, _+_, _*_, _≤_}
 use native.Mathlib.Omega.{arith}
-use Rattle.layout.specs.Fields.{atKind, atVolts, atWork, atSelfstart, atReturn, atFar, atClear, atNear, atFactor, atBacked, atPrimary, atSecondary}
+use Rattle.layout.specs.Fields.{atKind, atVolts, atWork, atSelfstart, atReturn, atFar, atClear, atNear, atFactor, atBacked}
 use Rattle.layout.specs.List.{field, rowAt}
 use Rattle.layout.specs.View.{viewOf, Settings}
 use Rattle.sides.specs.declared.Primary.{Primary}
@@ -14,13 +15,9 @@ use Rattle.sides.specs.declared.Secondary.{Secondary}
 use Rattle.sides.specs.Sides.{top, bottom, Rated}
 use Rattle.sides.proofs.SidesLaws.{top-none, bottom-none}
 use Rattle.settle.specs.Conditions.{primaryOf, returnsAfterSelfStart, clearOf, seesOwnZone, backsUp, staysClear, seesNear}
-use Rattle.settle.proofs.MultipliedOut.{both, othersWork, P1-multiplied, P2-multiplied, P3-multiplied, P4-multiplied}
+use Rattle.settle.specs.Inequalities.{NoRatio, othersWork}
+use Rattle.settle.proofs.MultipliedOut.{both, P1-multiplied, P2-multiplied, P3-multiplied, P4-multiplied}
 use Rattle.settle.proofs.MultipliedOut.{clear-multiplied, line-multiplied, other-multiplied}
-
--- row i has 0 in both ratings
-pub record NoRatio (l : List ℕ) (i : ℕ) : Type 0 where
-  pub no-primary : field l i atPrimary ≡ 0
-  pub no-secondary : field l i atSecondary ≡ 0
 
 rated : (l : List ℕ) (i : ℕ) → NoRatio l i → Rated (rowAt l i .ratio)
 rated l i a =
@@ -78,14 +75,22 @@ module _ (l : List ℕ) (i : ℕ) (a : NoRatio l i) where
           let sides = same-sides (up (12 * x .0) (field l i atVolts)) (down (10 * field l j atFar * field l j atVolts)) in
           both (P4-multiplied l i (rated l i a) x j) (λ h b. sides .0 (h b), λ h b. sides .1 (h b))
 
+      pub P2-own-stays :
+          (k : Settings) → Rated (rowAt l j .ratio) →
+          (clearOf (viewOf l) k i j I ≡ true) ↔
+          (11 * (k j .pickup .0 * top (rowAt l j .ratio) * field l j atVolts + othersWork l i j * bottom (rowAt l j .ratio)) ≤
+          10 * x .0 * field l i atVolts * bottom (rowAt l j .ratio))
+      P2-own-stays k b =
+          both (P2-multiplied l i (rated l i a) x j k b)
+          (same-sides (down _) (ap (λ (n : ℕ). n * bottom (rowAt l j .ratio)) (up (10 * x .0) (field l i atVolts))))
+
       pub P2-stays :
           (k : Settings) → NoRatio l j →
           (clearOf (viewOf l) k i j I ≡ true) ↔
           (11 * (k j .pickup .0 * field l j atVolts + othersWork l i j) ≤ 10 * x .0 * field l i atVolts)
       P2-stays k b =
-          both (P2-multiplied l i (rated l i a) x j k (rated l j b))
+          both (P2-own-stays k (rated l j b))
           (same-sides
-          (ap₂ (λ (p s : ℕ). 11 * (k j .pickup .0 * p * field l j atVolts + othersWork l i j * s) * bottom (rowAt l i .ratio))
-          (top-none (rowAt l j .ratio) (b .no-primary)) (bottom-none (rowAt l j .ratio) (b .no-primary)) ∙ down _ ∙ omega arith)
-          (ap (λ (s : ℕ). 10 * x .0 * top (rowAt l i .ratio) * field l i atVolts * s) (bottom-none (rowAt l j .ratio) (b .no-primary)) ∙
-          ap (λ (n : ℕ). n * 1) (up (10 * x .0) (field l i atVolts)) ∙ omega arith))
+          (ap₂ (λ (p s : ℕ). 11 * (k j .pickup .0 * p * field l j atVolts + othersWork l i j * s)) (top-none (rowAt l j .ratio) (b .no-primary))
+          (bottom-none (rowAt l j .ratio) (b .no-primary)) ∙ omega arith)
+          (ap (λ (s : ℕ). 10 * x .0 * field l i atVolts * s) (bottom-none (rowAt l j .ratio) (b .no-primary)) ∙ omega arith))

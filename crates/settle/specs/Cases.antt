@@ -16,7 +16,7 @@ use Rattle.layout.specs.declared.Row.{Row}
 use Rattle.settle.specs.declared.Settled.{Settled}
 use Rattle.settle.specs.declared.Settled.the-variants.{Set, Unset}
 use Rattle.sides.specs.declared.Primary.{Primary}
-use Rattle.sides.specs.Sides.{keyed}
+use Rattle.sides.specs.Sides.{milliamperes, keyed}
 use Rattle.settle.specs.Conditions.{eachFed, returnsAfterSelfStart, clearOf, seesOwnZone, backsUp}
 use Rattle.settle.specs.Conditions.{withinDelays, marginBetween, gradedAbove, staysClear, seesNear}
 use Rattle.settle.specs.Settle.{shown, settled}
@@ -36,7 +36,7 @@ row n = viewOf network .row (n - 1)
 
 -- so many mA on the primary side, a fifth of a mA less, and a fifth of a mA more
 abbrev mA : ℕ → Primary
-mA x = record { 0 = 5 * x }
+mA x = milliamperes x
 
 abbrev under : ℕ → Primary
 under x = record { 0 = 5 * x - 1 }
@@ -221,7 +221,8 @@ settlings =
     ∷ refuses (with (offers (ratio network 4 7 5) 4 86428 86429 1) 4 atFar 181500) 4 12 0
     ∷ settles (with (offers (ratio network 4 7 5) 4 86428 86429 1) 3 atFar 2178011) 4 (86429 ∷ 1200 ∷ 0 ∷ [])
     ∷ refuses (with (offers (ratio network 4 7 5) 4 86428 86429 1) 3 atFar 2178010) 4 13 3
-    -- its cutoff 928,572 × 1.4 = 1,300,000.8, where 928,571 × 1.4 = 1,299,999.4 is not clear of 1,300,000; 1.2 × 1,300,000.8 = 1,560,000.96
+    -- its cutoff, at a number past 500,000 that FIELD would not let in (settling does not ask): 928,572 × 1.4 = 1,300,000.8, where
+    -- 928,571 × 1.4 = 1,299,999.4 is not clear of 1,300,000; 1.2 × 1,300,000.8 = 1,560,000.96
     ∷ settles (with (offers (ratio network 4 7 5) 4 86429 928572 842143) 4 atNear 1560001) 4 (86429 ∷ 1200 ∷ 928572 ∷ [])
     ∷ settles (with (offers (ratio network 4 7 5) 4 86429 928572 842143) 4 atNear 1560000) 4 (86429 ∷ 1200 ∷ 0 ∷ [])
     ∷ settles (with (offers (ratio network 4 7 5) 4 86429 928571 842142) 4 atNear 1560001) 4 (86429 ∷ 1200 ∷ 0 ∷ [])

@@ -3,20 +3,26 @@
 -- sides, and "lower" is lower in primary. The tests of Conditions.antt and the settling of Settle.antt are proved to say exactly this, and the demands are
 -- stated with it. Rows are counted from 0: row i has number i + 1. Definitions only.
 use mathlib.Core.Path.{_≡_}
+use mathlib.Core.Bool.{not, cond, _&&_}
+use mathlib.Core.List.{List}
 use Prim.Native.Nat.{ℕ, _+_, _*_, _≤_, _<_}
 use Rattle.answers.specs.declared.Cause.{Cause}
 use Rattle.answers.specs.declared.Cause.the-variants.{Range, OwnZone, Backup}
 use Rattle.grid.specs.Grid.{Available}
 use Rattle.layout.specs.declared.CardRow.{CardRow}
 use Rattle.layout.specs.declared.Row.{Row}
-use Rattle.layout.specs.View.{View, Settings}
+use lib.Dec.{eqb}
+use Rattle.fold.specs.Fold.{sumTo}
+use Rattle.layout.specs.Fields.{atVolts, atWork, atPrimary, atSecondary}
+use Rattle.layout.specs.List.{rows, field}
+use Rattle.layout.specs.View.{View, viewOf, Settings}
 use Rattle.settle.specs.declared.Cutoff.{Cutoff}
 use Rattle.settle.specs.declared.Cutoff.the-variants.{Fitted, NotFitted}
 use Rattle.settle.specs.declared.Outcome.{Outcome}
 use Rattle.settle.specs.declared.Settled.the-variants.{Set}
 use Rattle.sides.specs.declared.Primary.{Primary}
 use Rattle.sides.specs.declared.Secondary.{Secondary}
-use Rattle.settle.specs.Conditions.{primaryOf, pickupAt, othersLoad, margin}
+use Rattle.settle.specs.Conditions.{primaryOf, pickupAt, fed, othersLoad, margin}
 use Rattle.settle.specs.Settle.{cutoffOf, printed, shown, settled}
 
 -- "available pickups: low, low + step, .. up to high", steps of secondary mA where the row has a ratio: x is one of them
@@ -26,6 +32,15 @@ AvailableOn r x = Available (r .low .0) (r .high .0) (r .step .0) (x .0)
 -- "fed rows are those it feeds directly": row i feeds row j
 abbrev pub Feeding : View → ℕ → ℕ → Type 0
 Feeding v i j = v .row j .feeder ≡ i + 1
+
+-- [02 §1] "with 0 in both it stays primary": row i of a list has 0 in both ratings
+pub record NoRatio (l : List ℕ) (i : ℕ) : Type 0 where
+  pub no-primary : field l i atPrimary ≡ 0
+  pub no-secondary : field l i atSecondary ≡ 0
+
+-- the sum, over the fed rows other than j, of work × volts: by the fields of a list, in mA
+abbrev pub othersWork : List ℕ → ℕ → ℕ → ℕ
+othersWork l i j = sumTo (rows l) (λ k. cond (fed (viewOf l) i k && not (eqb k j)) (field l k atWork * field l k atVolts) 0)
 
 -- pickup I of row i meets P1 and P2, the bounds from below
 pub record LowerMet (v : View) (k : Settings) (i : ℕ) (I : Primary) : Type 0 where

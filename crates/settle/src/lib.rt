@@ -3,21 +3,20 @@
 use answers::Cause;
 use answers::Reason;
 use fold::Found;
-use grid::ceil_div;
 use grid::greater;
 use grid::least_on;
 use layout::CardRow;
 use layout::FIELDS;
 use layout::Row;
 use layout::row_at;
-use sides::FIFTHS;
 use sides::Primary;
 use sides::Secondary;
 use sides::in_primary;
-use sides::scale;
+use sides::least_keyed;
 ghost use mathlib.Core.Path.{_≡_};
 ghost use Prim.Native.Nat.{ℕ, _-_, _≤_, _<_};
 ghost use lib.Dec.{leb};
+ghost use Rattle.grid.specs.Grid.{leastOn};
 ghost use Rattle.layout.specs.List.{rows};
 ghost use Rattle.layout.specs.Range.{Bounded};
 ghost use Rattle.layout.specs.View.{viewOf};
@@ -53,7 +52,7 @@ pub enum Settled {
 }
 
 // What the rows that a row feeds ask of it: the sum of their loads, and over them the greatest excess of a pickup over its
-// own load, shortfall of backup and earliest delay.
+// own load, shortfall of backup and earliest delay. The first three are primary currents, in fifths of a mA, times volts.
 pub struct Fed {
     pub load: u64,
     pub excess: u64,
@@ -61,7 +60,7 @@ pub struct Fed {
     pub earliest: u64,
 }
 
-// 1.2 times the greatest product of a primary current, in fifths of a mA, and volts.
+// 1.2 times the greatest product of a primary current, in fifths of a mA, and volts that a list in range holds.
 pub const REACH: u64 = 300000000000000;
 
 fn over(a: u64, b: u64) -> u64
@@ -70,16 +69,23 @@ fn over(a: u64, b: u64) -> u64
     if a <= b { 0 } else { a - b }
 }
 
-// The least pickup, as it is keyed, that P1 and P2 allow, available or not.
-fn pickup_from(r: Row, f: Fed) -> u64
+// The least pickup that P1 and P2 allow, available or not.
+fn pickup_from(r: Row, f: Fed) -> Secondary
     requires { ⌜ Bounded r × FedBounded f ⌝ }
-    ensures { λ b. ⌜ ((x : ℕ) → leb b x ≡ lowerBy r f (primaryOf r (keyed x))) ⌝ }
+    ensures { λ b. ⌜ ((x : ℕ) → leb (b .0) x ≡ lowerBy r f (primaryOf r (keyed x))) ⌝ }
 {
-    let k = scale(r.ratio);
-    let returns = ceil_div(11 * r.selfstart * r.work.0, 10 * r.returnfactor * k);
+    let q = r.ratio;
+    let returns = least_keyed(q, 11 * r.selfstart * r.work.0, 10 * r.returnfactor);
     let asked = over(f.excess + f.load, REACH);
-    let clears = ceil_div(11 * asked, 10 * r.volts * k);
-    greater(returns, clears)
+    let clears = least_keyed(q, 11 * asked, 10 * r.volts);
+    Secondary(greater(returns.0, clears.0))
+}
+
+// The least pickup that the relay offers from a bound on.
+fn least_offered(r: Row, from: Secondary) -> Found
+    ensures { λ x. ⌜ x ≡ leastOn (r .low .0) (r .high .0) (r .step .0) (leb (from .0)) ⌝ }
+{
+    least_on(r.low.0, r.high.0, r.step.0, from.0)
 }
 
 // P3 of a pickup.
@@ -160,7 +166,7 @@ fn pick(list: &[u64], i: usize, r: Row, f: Fed) -> Picked
     requires { ⌜ Listed (now list) i r × FedBounded f ⌝ }
     ensures { λ p. ⌜ p ≡ pickedBy (viewOf (now (list .entry))) i r f ⌝ }
 {
-    match least_on(r.low.0, r.high.0, r.step.0, pickup_from(r, f)) {
+    match least_offered(r, pickup_from(r, f)) {
         Found::Nothing => Picked::Unfit(Cause::Range),
         Found::At(x) => judge(list, i, r, f, Secondary(x)),
     }
@@ -182,27 +188,19 @@ fn sees_near(r: Row, x: Primary) -> bool
     factor * x.0 <= 10 * r.near.0
 }
 
-// Of a cutoff factor in thousandths times a current in fifths of a mA, what makes a whole mA.
-const WHOLE: u64 = 1000 * FIFTHS;
-
-// The least cutoff pickup, as it is keyed, that stays clear, available or not. Without a ratio the divisor is a constant: rounded up by
-// addition, that case stays apart from the other when it is compiled, and no division is left in it.
-fn cutoff_from(r: Row) -> u64
+// The least cutoff pickup that stays clear, available or not.
+fn cutoff_from(r: Row) -> Secondary
     requires { ⌜ Bounded r ⌝ }
-    ensures { λ b. ⌜ ((x : ℕ) → leb b x ≡ staysClear r (primaryOf r (keyed x))) ⌝ }
+    ensures { λ b. ⌜ ((x : ℕ) → leb (b .0) x ≡ staysClear r (primaryOf r (keyed x))) ⌝ }
 {
-    if r.ratio.primary == 0 {
-        return (r.factor * r.clear.0 + (WHOLE - 1)) / WHOLE;
-    }
-    let k = scale(r.ratio);
-    ceil_div(r.factor * r.clear.0, 1000 * k)
+    least_keyed(r.ratio, r.factor * r.clear.0, 1000)
 }
 
 fn cutoff_at(r: Row) -> Cutoff
     requires { ⌜ Bounded r ⌝ }
     ensures { λ c. ⌜ c ≡ cutoffOf r ⌝ }
 {
-    match least_on(r.low.0, r.high.0, r.step.0, cutoff_from(r)) {
+    match least_offered(r, cutoff_from(r)) {
         Found::At(x) => if sees_near(r, in_primary(r.ratio, Secondary(x))) {
             Cutoff::Fitted(Secondary(x))
         } else {

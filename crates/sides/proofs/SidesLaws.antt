@@ -3,14 +3,16 @@ use mathlib.Core.Path.{_≡_, refl, ap, ap₂, _∙_}
 use mathlib.Core.Bool.{Bool, true, false, cond}
 use mathlib.Core.Logic.{_↔_, ⊎-elim}
 use Prim.Native.Nat.{ℕ, _*_, _≤_, _<_}
-use native.Mathlib.Nat.{mul-le-mul, mul-le-mul-right, mul-assoc, mul-comm, mul-left-comm, mul-lt-mul-of-pos-right}
+use native.Mathlib.Nat.{mul-le-mul, mul-le-mul-right, mul-comm, mul-left-comm, mul-lt-mul-of-pos-right, mul-pos}
 use native.Mathlib.Omega.{arith}
-use lib.Dec.{eqb}
+use lib.Dec.{leb, eqb}
 use borrow.Author.Tests.{eq-eqb, ne-eqb, eqb-true, eqb-false}
 use Rattle.fold.proofs.BoolLaws.{passes-or-fails, lt-or-le}
 use Rattle.sides.specs.declared.Ratio.{Ratio}
 use Rattle.sides.specs.declared.Secondary.{Secondary}
-use Rattle.sides.specs.Sides.{milliamperes, scale, inPrimary, top, bottom, settingMost, Rated}
+use Rattle.grid.specs.Round.{ceilDiv}
+use Rattle.grid.proofs.RoundLaws.{ceilDiv-leb}
+use Rattle.sides.specs.Sides.{milliamperes, keyed, scale, inPrimary, top, bottom, settingMost, Rated}
 
 module _ (q : Ratio) where
   -- the scale with no ratio, with a rated secondary of 1, and with another
@@ -96,6 +98,21 @@ module _ (q : Ratio) where
         (lt-or-le (y .0) (x .0)),
   )
 
+-- "exceeds 100,000,000 mA primary", multiplied out: it does not, exactly where its primary current is at most that
+pub most-exactly :
+    (q : Ratio) → Rated q → (q .primary ≡ 0 → ⊥) → (x : Secondary) →
+    (x .0 * q .primary ≤ 100000000 * q .secondary) ↔ (inPrimary q x .0 ≤ milliamperes 100000000 .0)
+most-exactly q a n x =
+    let e = exactly-the-ratio q a n x in
+    let s : 0 < q .secondary = ⊎-elim (λ o. omega arith) (λ f. omega arith) (a .secondary-fits .one-or-five n) in (
+      λ h.
+          ⊎-elim
+          (λ (g : milliamperes 100000000 .0 < inPrimary q x .0). let m = mul-lt-mul-of-pos-right g s in absurd (omega arith))
+          (λ (g : inPrimary q x .0 ≤ milliamperes 100000000 .0). g)
+          (lt-or-le (milliamperes 100000000 .0) (inPrimary q x .0)),
+      λ h. let m = mul-le-mul-right (q .secondary) h in omega arith,
+    )
+
 -- ---- what fits: a number at the relay and its primary current, in fifths
 
 pub setting-to : (p : ℕ) → settingMost p ≤ 100000000
@@ -116,12 +133,18 @@ module _ (q : Ratio) (a : Rated q) where
       in-each false true = omega (arith, a .primary-to)
       in-each false false = omega (arith, a .primary-to)
 
-  pub primary-to : (x : Secondary) → x .0 ≤ settingMost (q .primary) → inPrimary q x .0 ≤ 50000000000
+  pub primary-fits : (x : Secondary) → x .0 ≤ settingMost (q .primary) → inPrimary q x .0 ≤ 50000000000
   unfolding settingMost
-  primary-to x h =
+  primary-fits x h =
       ⊎-elim
       (λ (e : eqb (q .primary) 0 ≡ true).
       let s = scale-none q (eqb-true (q .primary) 0 e) in
       rw s (omega (arith, rw e at h)))
       (λ (e : eqb (q .primary) 0 ≡ false). mul-le-mul (rw e at h) scale-to)
       (passes-or-fails (eqb (q .primary) 0))
+
+-- a bound rounded up at the relay says what the inequality says in primary
+module _ (q : Ratio) (n d : ℕ) (p : 0 < d) (b : ℕ) (e : b ≡ ceilDiv n (d * scale q)) where
+  pub least-bound : (x : ℕ) → leb b x ≡ leb n (d * inPrimary q (keyed x) .0)
+  least-bound x =
+      ap (λ (b : ℕ). leb b x) e ∙ ceilDiv-leb n (d * scale q) x (mul-pos p (scale-from q)) ∙ ap (leb n) (mul-left-comm x d (scale q))

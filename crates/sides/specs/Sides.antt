@@ -9,7 +9,7 @@ use Rattle.sides.specs.declared.Primary.{Primary}
 use Rattle.sides.specs.declared.Ratio.{Ratio}
 use Rattle.sides.specs.declared.Secondary.{Secondary}
 
--- x mA on the primary side, and x mA at the relay
+-- x mA on the primary side, and x mA at the relay: the number keyed there, which is secondary where the row has a ratio and primary where not
 abbrev pub milliamperes : ℕ → Primary
 milliamperes x = record { 0 = 5 * x }
 
@@ -37,11 +37,11 @@ unfoldable pub settingMost : ℕ → ℕ
 settingMost primary = cond (eqb primary 0) 100000000 500000
 
 -- a rated secondary beside the rated primary p: 0 with 0, otherwise 1 or 5
-pub record Secondarily (p s : ℕ) : Type 0 where
+pub record RatingsFit (p s : ℕ) : Type 0 where
   pub none : p ≡ 0 → s ≡ 0
   pub one-or-five : (p ≡ 0 → ⊥) → (s ≡ 1) ⊎ (s ≡ 5)
 
 -- a ratio as its two fields allow it
 pub record Rated (q : Ratio) : Type 0 where
   pub primary-to : q .primary ≤ 20000
-  pub secondary-fits : Secondarily (q .primary) (q .secondary)
+  pub secondary-fits : RatingsFit (q .primary) (q .secondary)

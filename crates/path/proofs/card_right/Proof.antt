@@ -13,7 +13,7 @@ returns : tie.Need-returns
 returns c =
     let replaced = c .before in
     let start = replaced .before .before .before .before .before in
-    judged-by _ _ _ _ _ _ (start .pre .plain-is) (lent-replaced _ _ _ (replaced .if1 .taken)) _ (c .within-table .ensures)
+    judged-by _ _ _ _ _ _ (start .pre .unrated-is) (lent-replaced _ _ _ (replaced .if1 .taken)) _ (c .within-table .ensures)
 
 field-at-requires : tie.Need-field-at-requires
 field-at-requires c κs = search needs
@@ -25,7 +25,7 @@ returns-2 : tie.Need-returns-2
 returns-2 c =
     let read = c .before .before in
     let start = read .before .before .before .before .before .before in
-    judged-by _ _ _ _ _ _ (start .pre .plain-is)
+    judged-by _ _ _ _ _ _ (start .pre .unrated-is)
     (lent-primary _ _ _ (read .before .if1 .left) (sym (read .field-at .ensures) ∙ c .before .if2 .taken)) _ (c .within-table2 .ensures)
 
 within-table-requires-3 : tie.Need-within-table-requires-3
@@ -35,7 +35,7 @@ returns-3 : tie.Need-returns-3
 returns-3 c =
     let read = c .before .before in
     let start = read .before .before .before .before .before .before in
-    judged-by _ _ _ _ _ _ (start .pre .keyed-is)
+    judged-by _ _ _ _ _ _ (start .pre .rated-is)
     (lent-secondary _ _ _ (read .before .if1 .left) (λ z. c .before .if2 .left (read .field-at .ensures ∙ z))) _ (c .within-table3 .ensures)
 
 pub card-right-spec : {M : Type 1} → statement M

@@ -10,10 +10,10 @@ use Rattle.path.proofs.first_card_wrong.Statement.{statement}
 use Rattle.path.proofs.first_card_wrong.Tie as tie
 
 abbrev Inv-loop : tie.InvT-loop
-Inv-loop list i card n plain keyed j₀ j = Passed (λ j. not (cardRight list i card j)) n j
+Inv-loop list i card n unrated rated j₀ j = Passed (λ j. not (cardRight list i card j)) n j
 
 abbrev μ-loop : tie.MeasureT-loop
-μ-loop list i card n plain keyed j₀ j = n - j
+μ-loop list i card n unrated rated j₀ j = n - j
 
 column-bounds-requires : tie.Need-column-bounds-requires Inv-loop μ-loop
 column-bounds-requires c κs = search needs
@@ -38,8 +38,8 @@ card-right-requires c κs =
     record {
       is-row = at-loop-test .loop-test .taken;
       in-card = omega (arith, at-loop-test .loop-test .taken, start .pre);
-      plain-is = tables .before .column-bounds .ensures;
-      keyed-is = tables .column-bounds2 .ensures;
+      unrated-is = tables .before .column-bounds .ensures;
+      rated-is = tables .column-bounds2 .ensures;
     }
 
 returns : tie.Need-returns Inv-loop μ-loop

@@ -8,7 +8,7 @@ use Rattle.rows.proofs.high_right.Statement.{statement}
 use Rattle.rows.proofs.high_right.Tie as tie
 
 mul-result : tie.Need-mul-result
-mul-result c = record { fits = lt-of-le-of-lt (mul-le-mul (c .pre .0) (c .pre .1)) (lit< tt) }
+mul-result c = let a = c .before .before .pre in record { fits = lt-of-le-of-lt (mul-le-mul (a .0) (a .1)) (lit< tt) }
 
 mul-result-2 : tie.Need-mul-result-2
 mul-result-2 c = search needs

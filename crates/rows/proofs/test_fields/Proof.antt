@@ -9,10 +9,10 @@ use Rattle.rows.proofs.test_fields.Statement.{statement}
 use Rattle.rows.proofs.test_fields.Tie as tie
 
 abbrev Inv-loop : tie.InvT-loop
-Inv-loop list n plain keyed i₀ i = Passed (rowAtFault list) n i
+Inv-loop list n unrated rated i₀ i = Passed (rowAtFault list) n i
 
 abbrev μ-loop : tie.MeasureT-loop
-μ-loop list n plain keyed i₀ i = n - i
+μ-loop list n unrated rated i₀ i = n - i
 
 field-bounds-requires : tie.Need-field-bounds-requires Inv-loop μ-loop
 field-bounds-requires c κs = search needs

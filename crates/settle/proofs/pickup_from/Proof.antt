@@ -1,45 +1,35 @@
--- `settle::pickup_from` meets its contract: a bound rounded up says the same of pickups as they are keyed as the inequality multiplied out.
+-- `settle::pickup_from` meets its contract: the greater of the two bounds, each P1's and P2's inequality in primary.
 use borrow.Author.Needs.{needs}
 use native.Mathlib.Omega.{arith}
 use native.Mathlib.Nat.{lt-of-le-of-lt, mul-le-mul, mul-le-mul-left}
 use lib.Dec.{leb, lit<}
-use mathlib.Core.Path.{_≡_, sym, ap, ap₂, _∙_, subst}
+use mathlib.Core.Path.{_≡_, ap, _∙_}
 use Prim.Native.Nat.{ℕ, _*_, _≤_}
-use Rattle.grid.specs.Round.{ceilDiv}
-use Rattle.sides.specs.declared.Ratio.{Ratio}
-use Rattle.sides.specs.Sides.{scale, Rated}
-use Rattle.sides.proofs.SidesLaws.{scale-to}
+use Rattle.layout.specs.declared.Row.{Row}
+use Rattle.layout.specs.Range.{Bounded}
+use Rattle.sides.specs.Sides.{keyed}
+use Rattle.settle.specs.Conditions.{primaryOf}
 use Rattle.settle.proofs.PickupLaws.{pickup-bound}
 use Rattle.settle.proofs.pickup_from.Statement.{statement}
 use Rattle.settle.proofs.pickup_from.Tie as tie
 
--- a divisor on the relay's scale
-scaled : {n m : ℕ} (q : Ratio) → Rated q → (k : ℕ) → k ≡ scale q → n ≤ m → n * k ≤ m * 100000
-scaled q a k e h = mul-le-mul h (subst (λ (k : ℕ). k ≤ 100000) (sym e) (scale-to q a))
+-- P1's side from below
+load-to : {r : Row} → Bounded r → 11 * r .selfstart * r .work .0 ≤ 55000000000000
+load-to a = mul-le-mul (mul-le-mul-left 11 (a .selfstart-to)) (a .work-to)
 
-scale-requires : tie.Need-scale-requires
-scale-requires c κs = c .pre .0 .rated
+mul-least-keyed : tie.Need-mul-least-keyed
+mul-least-keyed c = search needs
 
-mul-ceil-div : tie.Need-mul-ceil-div
-mul-ceil-div c = search needs
+mul-least-keyed-2 : tie.Need-mul-least-keyed-2
+mul-least-keyed-2 c = record { fits = lt-of-le-of-lt (load-to (c .before .before .before .pre .0)) (lit< tt) }
 
-mul-ceil-div-2 : tie.Need-mul-ceil-div-2
-mul-ceil-div-2 c =
-    let a = c .before .before .before .pre .0 in
-    record { fits = lt-of-le-of-lt (mul-le-mul (mul-le-mul-left 11 (a .selfstart-to)) (a .work-to)) (lit< tt) }
+mul-least-keyed-3 : tie.Need-mul-least-keyed-3
+mul-least-keyed-3 c = search needs
 
-mul-ceil-div-3 : tie.Need-mul-ceil-div-3
-mul-ceil-div-3 c = search needs
-
-mul-ceil-div-4 : tie.Need-mul-ceil-div-4
-mul-ceil-div-4 c =
-    let at-scale = c .before .before .before in
-    let start = at-scale .before in
-    let a = start .pre .0 in
-    record { fits = lt-of-le-of-lt (scaled (start .args .r .ratio) (a .rated) _ (at-scale .scale .ensures) (mul-le-mul-left 10 (a .return-to))) (lit< tt) }
-
-ceil-div-requires : tie.Need-ceil-div-requires
-ceil-div-requires c κs = search needs
+least-keyed-requires : tie.Need-least-keyed-requires
+least-keyed-requires c κs =
+    let a = c .before .before .before .before .pre .0 in
+    (a .rated, omega (arith, load-to a), omega (arith, a .return-from), omega (arith, a .return-to))
 
 add-over : tie.Need-add-over
 add-over c = search needs
@@ -47,55 +37,42 @@ add-over c = search needs
 over-requires : tie.Need-over-requires
 over-requires c κs = search needs
 
-mul-ceil-div-5 : tie.Need-mul-ceil-div-5
-mul-ceil-div-5 c = search needs
+mul-least-keyed-4 : tie.Need-mul-least-keyed-4
+mul-least-keyed-4 c = search needs
 
-mul-ceil-div-6 : tie.Need-mul-ceil-div-6
-mul-ceil-div-6 c = search needs
+mul-least-keyed-5 : tie.Need-mul-least-keyed-5
+mul-least-keyed-5 c = search needs
 
-mul-ceil-div-7 : tie.Need-mul-ceil-div-7
-mul-ceil-div-7 c =
-    let at-scale = c .before .before .before .before .before .before .before in
-    let start = at-scale .before in
-    let a = start .pre .0 in
-    record { fits = lt-of-le-of-lt (scaled (start .args .r .ratio) (a .rated) _ (at-scale .scale .ensures) (mul-le-mul-left 10 (a .volts-to))) (lit< tt) }
-
-ceil-div-requires-2 : tie.Need-ceil-div-requires-2
-ceil-div-requires-2 c κs = search needs
+least-keyed-requires-2 : tie.Need-least-keyed-requires-2
+least-keyed-requires-2 c κs = search needs
 
 greater-requires : tie.Need-greater-requires
 greater-requires c κs = search needs
 
 returns : tie.Need-returns
 returns c =
-    let at-ceil-div2 = c .before in
-    let at-over = at-ceil-div2 .before .before in
-    let at-ceil-div = at-over .before .before in
-    let at-scale = at-ceil-div .before .before .before .before in
-    let start = at-scale .before in
-    let a = start .args in
-    let k = at-scale .scale .ensures in
+    let at-clears = c .before in
+    let at-over = at-clears .before .before in
+    let at-returns = at-over .before .before in
+    let start = at-returns .before .before .before .before .before in
+    let r = start .args .r in
     λ (x : ℕ).
     ap (λ (b : ℕ). leb b x) (c .greater .ensures) ∙
-    pickup-bound (a .r) (a .f) (start .pre .0) _ _
-    (at-ceil-div .ceil-div .ensures ∙ ap (λ (k : ℕ). ceilDiv (11 * a .r .selfstart * a .r .work .0) (10 * a .r .returnfactor * k)) k)
-    (at-ceil-div2 .ceil-div2 .ensures ∙ ap₂ (λ (y k : ℕ). ceilDiv (11 * y) (10 * a .r .volts * k)) (at-over .over .ensures) k) x
+    pickup-bound r (start .args .f) x _ _ (at-returns .least-keyed .ensures x)
+    (at-clears .least-keyed2 .ensures x ∙ ap (λ (k : ℕ). leb (11 * k) (10 * r .volts * primaryOf r (keyed x) .0)) (at-over .over .ensures))
 
 pub pickup-from-spec : {M : Type 1} → statement M
 pickup-from-spec =
     tie.close
     (tie.spec
-    scale-requires
-    mul-ceil-div
-    mul-ceil-div-2
-    mul-ceil-div-3
-    mul-ceil-div-4
-    ceil-div-requires
+    mul-least-keyed
+    mul-least-keyed-2
+    mul-least-keyed-3
+    least-keyed-requires
     add-over
     over-requires
-    mul-ceil-div-5
-    mul-ceil-div-6
-    mul-ceil-div-7
-    ceil-div-requires-2
+    mul-least-keyed-4
+    mul-least-keyed-5
+    least-keyed-requires-2
     greater-requires
     returns)

@@ -5,7 +5,7 @@ use mathlib.Core.Path.{sym, subst}
 use Prim.Native.Nat.{ℕ, _*_, _<_}
 use native.Mathlib.Nat.{lt-of-le-of-lt, le-trans}
 use lib.Dec.{lit<}
-use Rattle.sides.proofs.SidesLaws.{stays-primary, setting-to, primary-to}
+use Rattle.sides.proofs.SidesLaws.{stays-primary, setting-to, primary-fits}
 use Rattle.sides.proofs.in_primary.Statement.{statement}
 use Rattle.sides.proofs.in_primary.Tie as tie
 
@@ -30,7 +30,7 @@ mul-t6 c =
     record {
       fits =
           subst (λ (k : ℕ). start .args .x .0 * k < 18446744073709551616) (sym (scaled .scale .ensures))
-          (lt-of-le-of-lt (primary-to (start .args .q) (start .pre .0) (start .args .x) (start .pre .1)) (lit< tt));
+          (lt-of-le-of-lt (primary-fits (start .args .q) (start .pre .0) (start .args .x) (start .pre .1)) (lit< tt));
     }
 
 returns-2 : tie.Need-returns-2
