@@ -1,5 +1,5 @@
 -- The tests 2 to 5 exactly: each ends as it does where the list is so, at the first row and field, and no other way.
-use mathlib.Core.Path.{_≡_, refl, sym, ap, subst}
+use mathlib.Core.Path.{_≡_, refl, sym, ap, _∙_, subst}
 use mathlib.Core.Bool.{Bool, true, false, cond}
 use mathlib.Core.Logic.{_⊎_, _↔_, inl, inr, ⊎-elim}
 use mathlib.Core.List.{List}
@@ -7,7 +7,7 @@ use Prim.Native.Nat.{ℕ, _+_, _*_, _%_, _≤_, _<_}
 use native.Mathlib.Omega.{arith}
 use lib.Dec.{leb, eqb}
 use lib.ListN.{length}
-use borrow.Author.Tests.{eqb-true, eqb-false, leb-true, leb-false, not-false, not-true, ne-eqb, le-leb, lt-leb}
+use borrow.Author.Tests.{eqb-true, eqb-false, leb-true, leb-false, not-false, not-true, ne-eqb}
 use Rattle.answers.specs.declared.Answer.the-variants.{Field}
 use Rattle.answers.specs.declared.Tested.{Tested}
 use Rattle.answers.specs.declared.Tested.the-variants.{Refused}
@@ -23,7 +23,7 @@ use Rattle.rows.specs.Tests.{fieldRight, highRight, orderFault, faultAft
 use Rattle.rows.specs.Tests.{treeAnswer, treeTest, rowsTest}
 use Rattle.rows.specs.InRange.{RightSize, RowInRange, InRange, FieldInRange, FirstWrong, LowAboveHigh, HighAboveMost}
 use Rattle.rows.specs.InRange.{FirstOutOfRange, SizeGets, RowsGet}
-use Rattle.rows.proofs.InRangeLaws.{field-in-range, no-fault-row, in-range-field, row-no-fault}
+use Rattle.rows.proofs.InRangeLaws.{field-in-range, low-fault, high-fault, no-fault-row, in-range-field, row-no-fault}
 use Rattle.rows.proofs.InRangeLaws.{right-feeds, feeds-right, in-range-none, in-range-passes}
 use Rattle.rows.proofs.TestLaws.{fieldWrong, size-ragged, size-none, size-over, size-short, size-right}
 
@@ -101,7 +101,7 @@ size-rows l s = omega (arith, s .whole-rows, s .most)
 module _ (l : List ℕ) (few : rows l ≤ rowsMost) where
   -- the fault of a row that has one
   out-fault : (i k : ℕ) → FirstOutOfRange l i k → rowFault l i ≡ k + 1
-  unfolding rowFault faultAfter orderFault highRight
+  unfolding rowFault faultAfter
   out-fault i k f =
       ⊎-elim
       (λ (w : FirstWrong l i k).
@@ -111,9 +111,9 @@ module _ (l : List ℕ) (few : rows l ≤ rowsMost) where
       (λ m a b. rw (right m (w .fields-before m b)))))
       (⊎-elim
       (λ (w : LowAboveHigh l i k).
-      rw (none (w .fields-right)) (rw (lt-leb _ _ (w .above)) (omega (arith, w .named))))
+      rw (none (w .fields-right)) (low-fault l i (w .above) ∙ omega (arith, w .named)))
       (λ (w : HighAboveMost l i k).
-      rw (none (w .fields-right)) (rw (le-leb _ _ (w .low-at-most-high), lt-leb _ _ (w .above)) (omega (arith, w .named)))))
+      rw (none (w .fields-right)) (high-fault l i (w .low-at-most-high) (w .above) ∙ omega (arith, w .named))))
       (f .fault)
     where
       right : (m : ℕ) → FieldInRange l i m → fieldRight l i m ≡ true

@@ -6,7 +6,7 @@ use mathlib.Core.List.{List}
 use Prim.Native.Nat.{ℕ, _+_, _-_, _*_, _≤_, _<_}
 use native.Mathlib.Omega.{arith}
 use lib.Dec.{leb, ltb, eqb}
-use borrow.Author.Tests.{eqb-true, eqb-false, ltb-true, leb-true, not-false, not-true, ne-eqb, eq-eqb, le-leb, lt-ltb}
+use borrow.Author.Tests.{eqb-true, eqb-false, ltb-true, leb-true, not-false, not-true, ne-eqb, eq-eqb, le-leb, lt-leb, lt-ltb}
 use Rattle.layout.specs.Counts.{fieldCount, rowsMost}
 use Rattle.fold.specs.declared.Found.{Found}
 use Rattle.fold.specs.declared.Found.the-variants.{At, Nothing}
@@ -122,12 +122,22 @@ module _ (l : List ℕ) (i : ℕ) where
       by-cases true e false f = (λ z. absurd (omega arith), λ z. absurd (omega arith))
       by-cases false e b f = (λ z. absurd (omega arith), λ z. absurd (omega arith))
 
-  pub right-order :
-      field l i atLow ≤ field l i atHigh → field l i atHigh * field l i atPrimary ≤ 100000000 * field l i atSecondary → orderFault l i ≡ 0
+  by-order :
+      {a b : Bool} → leb (field l i atLow) (field l i atHigh) ≡ a →
+      leb (field l i atHigh * field l i atPrimary) (100000000 * field l i atSecondary) ≡ b →
+      orderFault l i ≡ cond a (cond b 0 (atHigh + 1)) (atLow + 1)
   unfolding orderFault highRight
-  right-order o h =
-      ap₂ (λ (a b : Bool). cond a (cond b 0 (atHigh + 1)) (atLow + 1)) (le-leb (field l i atLow) (field l i atHigh) o)
-      (le-leb (field l i atHigh * field l i atPrimary) (100000000 * field l i atSecondary) h)
+  by-order e f = ap₂ (λ (a b : Bool). cond a (cond b 0 (atHigh + 1)) (atLow + 1)) e f
+
+  pub low-fault : field l i atHigh < field l i atLow → orderFault l i ≡ atLow + 1
+  low-fault h = by-order (lt-leb _ _ h) refl
+
+  module _ (o : field l i atLow ≤ field l i atHigh) where
+    pub high-fault : 100000000 * field l i atSecondary < field l i atHigh * field l i atPrimary → orderFault l i ≡ atHigh + 1
+    high-fault h = by-order (le-leb _ _ o) (lt-leb _ _ h)
+
+    pub right-order : field l i atHigh * field l i atPrimary ≤ 100000000 * field l i atSecondary → orderFault l i ≡ 0
+    right-order h = by-order (le-leb _ _ o) (le-leb _ _ h)
 
   pub no-fault-row : rowFault l i ≡ 0 → RowInRange l i
   unfolding rowFault

@@ -43,13 +43,15 @@ module _ (r : Row) where
   cutoff-least b bound = λ t. leastOn (r .low .0) (r .high .0) (r .step .0) (λ x. bound x t)
 
   module _ (x : ℕ) (e : leastPickup r (staysClear r) ≡ At x) where
-    pub cutoff-fitted : seesNear r (primaryOf r (keyed x)) ≡ true → Fitted (keyed x) ≡ cutoffOf r
+    by-sight : {b : Bool} → seesNear r (primaryOf r (keyed x)) ≡ b → cutoffOf r ≡ cond b (Fitted (keyed x)) NotFitted
     unfolding cutoffOf fitting
-    cutoff-fitted s = rw (e, s)
+    by-sight s = ap (fitting r) e ∙ ap (λ (b : Bool). cond b (Fitted (keyed x)) NotFitted) s
+
+    pub cutoff-fitted : seesNear r (primaryOf r (keyed x)) ≡ true → Fitted (keyed x) ≡ cutoffOf r
+    cutoff-fitted s = sym (by-sight s)
 
     pub cutoff-blind : seesNear r (primaryOf r (keyed x)) ≡ false → NotFitted ≡ cutoffOf r
-    unfolding cutoffOf fitting
-    cutoff-blind s = rw (e, s)
+    cutoff-blind s = sym (by-sight s)
 
   pub cutoff-none : leastPickup r (staysClear r) ≡ Nothing → NotFitted ≡ cutoffOf r
   unfolding cutoffOf fitting
