@@ -39,9 +39,9 @@ uint64_t surfpocket_version(void);
 /* Sizes. The first two grow in later versions, so use their names.
    A row of a list is SURFPOCKET_SIZE_FIELDS numbers, in the order of the README's table; a row of a card is
    SURFPOCKET_SIZE_COLUMNS: pickup in mA, delay in ms, cutoff in mA or 0 for none. Fields 19 and 20 are the current transformer's
-   rated primary (0, or 1 to 20,000) and rated secondary (0, 1 or 5) in A. With 0 in both, the row's low, high and step and its pickup and cutoff on the card are
-   primary mA; otherwise all five are secondary mA, the number keyed at the relay, and the primary current is that number times the
-   rated primary over the rated secondary. All other currents of a row are primary. */
+   rated primary (0, or 1 to 20,000) and rated secondary (0, 1 or 5) in A. With 0 in both, the row's low, high and step and its pickup
+   and cutoff on the card are primary mA; otherwise all five are secondary mA, the number keyed at the relay, and the primary current
+   is that number times the rated primary over the rated secondary. All other currents of a row are primary. */
 #define SURFPOCKET_SIZE_FIELDS 20
 #define SURFPOCKET_SIZE_COLUMNS 3
 /* The most rows of a list, and the most bytes of its text. */

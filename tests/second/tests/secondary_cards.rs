@@ -1,38 +1,14 @@
 //! Replacements where rows are keyed in secondary mA [02 §1]: CARD's limits, numbers
 //! off the path, and rows keyed otherwise, by hand.
 
+mod common;
+
+use common::row;
 use second::answer::{Answer, CARD, RANGE};
 use second::generate::*;
 use second::replace::{replace, Ledger, Replaced};
-use second::row::{numbers_of, Row, CARD_NUMBERS, FIELDS, LINE};
+use second::row::{numbers_of, Row, CARD_NUMBERS, FIELDS};
 use second::whole::whole;
-
-/// A row as in `secondary_rows`: P1 asks 1.1 × work.
-fn row(row: u64, feeds_from: u64, rated: [u64; 2], work: u64) -> Row {
-    let row = Row {
-        row,
-        feeds_from,
-        kind: LINE,
-        volts: 100,
-        work,
-        selfstart: 1_000,
-        return_factor: 1_000,
-        far: 100_000_000,
-        clear: 1,
-        near: 1,
-        factor: 1_000,
-        low: 1,
-        high: 0,
-        step: 1,
-        device: 1,
-        floor: 0,
-        ceiling: 100_000,
-        backed: 0,
-        rated_primary: rated[0],
-        rated_secondary: rated[1],
-    };
-    Row { high: row.most_high(), ..row }
-}
 
 const PRIMARY: [u64; 2] = [0, 0];
 

@@ -2,37 +2,16 @@
 //! on each side of it, worked out by hand. Behind 7/5 A a secondary mA is 1.4 mA, so
 //! that 11 of them are 15.4, where rounding up or down gives another answer.
 
+mod common;
+
 use second::answer::{Answer, OWN_ZONE, RANGE};
 use second::fast;
 use second::row::{numbers_of, Row, LINE, MOTOR, TRANSFORMER};
 use second::whole::whole;
 
-/// A row behind so many A over so many, with the widest choice of pickups; 0/0 is
-/// keyed in primary mA. P1 asks 1.1 × work.
+/// A row by itself, as `common` has it.
 fn row(rated_primary: u64, rated_secondary: u64, work: u64) -> Row {
-    let row = Row {
-        row: 1,
-        feeds_from: 0,
-        kind: LINE,
-        volts: 100,
-        work,
-        selfstart: 1_000,
-        return_factor: 1_000,
-        far: 100_000_000,
-        clear: 1,
-        near: 1,
-        factor: 1_000,
-        low: 1,
-        high: 0,
-        step: 1,
-        device: 1,
-        floor: 0,
-        ceiling: 100_000,
-        backed: 0,
-        rated_primary,
-        rated_secondary,
-    };
-    Row { high: row.most_high(), ..row }
+    common::row(1, 0, [rated_primary, rated_secondary], work)
 }
 
 /// Answer, pickups and cutoffs, the last row fed by the source and feeding the others.
