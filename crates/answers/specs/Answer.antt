@@ -1,11 +1,11 @@
--- [01 §4], [02 §2, §11] The numbers given back. 6 is retired. Definitions only.
+-- [01 §4], [02 §2, §3, §11] The numbers given back. 6 is retired. Definitions only.
 use mathlib.Core.List.{List, [], _∷_}
 use Prim.Native.Nat.{ℕ}
 use lib.ListN.{getD}
 use Rattle.answers.specs.declared.Answer.{Answer}
 use Rattle.answers.specs.declared.Answer.the-variants.{Done, Text, Count, Room, Field, Tree, Unsettled, Study, Card, Edit, Input, Slope}
 use Rattle.answers.specs.declared.Cause.the-variants.{Range, OwnZone, Backup}
-use Rattle.answers.specs.declared.Reason.the-variants.{Pickup, Delay}
+use Rattle.answers.specs.declared.Reason.the-variants.{Pickup, Curve, Delay}
 
 -- an answer is given in so many numbers
 abbrev pub numberCount : ℕ
@@ -25,6 +25,7 @@ givenBy (Tree row) = numbered 5 row 0
 givenBy (Unsettled row (Pickup Range)) = numbered 11 row 0
 givenBy (Unsettled row (Pickup OwnZone)) = numbered 12 row 0
 givenBy (Unsettled row (Pickup (Backup fed))) = numbered 13 row fed
+givenBy (Unsettled row (Curve stalled)) = numbered 14 stalled 0
 givenBy (Unsettled row Delay) = numbered 7 row 0
 givenBy (Study place) = numbered 8 place 0
 givenBy (Card row) = numbered 9 row 0

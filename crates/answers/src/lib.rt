@@ -11,9 +11,11 @@ pub enum Cause {
     Backup(u64),
 }
 
-// Why a row can't be settled.
+// Why a row can't be settled: no pickup fits it; the M of the row of this number is at most 1.000 [02 §3]; or no delay or multiplier
+// fits it.
 pub enum Reason {
     Pickup(Cause),
+    Curve(u64),
     Delay,
 }
 
@@ -51,6 +53,7 @@ fn unsettled(row: u64, why: Reason) -> [u64; NUMBERS]
             Cause::OwnZone => [12, row, 0],
             Cause::Backup(fed) => [13, row, fed],
         },
+        Reason::Curve(stalled) => [14, stalled, 0],
         Reason::Delay => [7, row, 0],
     }
 }

@@ -1,5 +1,5 @@
 -- A card after a row is put in: that row is the one put in, the others stay, and so does what stands past them.
-use mathlib.Core.Path.{_≡_, refl, sym, ap, ap₂, _∙_}
+use mathlib.Core.Path.{_≡_, refl, sym, ap, _∙_}
 use mathlib.Core.Bool.{Bool, true, false, _&&_}
 use mathlib.Core.Logic.{_≢_, _↔_}
 use mathlib.Core.List.{List}
@@ -17,42 +17,64 @@ use Rattle.sides.specs.Sides.{keyed}
 use Rattle.layout.specs.Card.{column, cardRowAt, columnsOf, putCardRow, sameCardRow}
 
 -- a card row is its columns
-pub same-columns : {k k′ : CardRow} → k .pickup .0 ≡ k′ .pickup .0 → k .delay ≡ k′ .delay → k .cutoff .0 ≡ k′ .cutoff .0 → k ≡ k′
-same-columns p d q = λ t. record { pickup = keyed (p t); delay = d t; cutoff = keyed (q t) }
+pub same-columns :
+    {k k′ : CardRow} → k .pickup .0 ≡ k′ .pickup .0 → k .delay ≡ k′ .delay → k .cutoff .0 ≡ k′ .cutoff .0 → k .law ≡ k′ .law →
+    k .multiplier ≡ k′ .multiplier → k ≡ k′
+same-columns p d q w m = λ t. record { pickup = keyed (p t); delay = d t; cutoff = keyed (q t); law = w t; multiplier = m t }
 
 -- the test of it: equal in all their numbers
 module _ (a b : CardRow) where
-  abbrev delays : Bool
-  delays = eqb (a .delay) (b .delay)
+  -- what is left to compare after the pickups, the delays, the cutoffs and the laws
+  abbrev multipliers : Bool
+  multipliers = eqb (a .multiplier) (b .multiplier)
 
-  abbrev cutoffs : Bool
-  cutoffs = eqb (a .cutoff .0) (b .cutoff .0)
+  abbrev after-cutoffs : Bool
+  after-cutoffs = eqb (a .law) (b .law) && multipliers
+
+  abbrev after-delays : Bool
+  after-delays = eqb (a .cutoff .0) (b .cutoff .0) && after-cutoffs
+
+  abbrev after-pickups : Bool
+  after-pickups = eqb (a .delay) (b .delay) && after-delays
 
   pub same-card-row-exactly : (sameCardRow a b ≡ true) ↔ (a ≡ b)
   same-card-row-exactly = (
     λ e.
-        let rest = and-right (eqb (a .pickup .0) (b .pickup .0)) (delays && cutoffs) e in
+        let delays = and-right (eqb (a .pickup .0) (b .pickup .0)) after-pickups e in
+        let cutoffs = and-right (eqb (a .delay) (b .delay)) after-delays delays in
+        let laws = and-right (eqb (a .cutoff .0) (b .cutoff .0)) after-cutoffs cutoffs in
         same-columns
-        (eqb-true (a .pickup .0) (b .pickup .0) (and-left (eqb (a .pickup .0) (b .pickup .0)) (delays && cutoffs) e))
-        (eqb-true (a .delay) (b .delay) (and-left delays cutoffs rest))
-        (eqb-true (a .cutoff .0) (b .cutoff .0) (and-right delays cutoffs rest)),
+        (eqb-true (a .pickup .0) (b .pickup .0) (and-left (eqb (a .pickup .0) (b .pickup .0)) after-pickups e))
+        (eqb-true (a .delay) (b .delay) (and-left (eqb (a .delay) (b .delay)) after-delays delays))
+        (eqb-true (a .cutoff .0) (b .cutoff .0) (and-left (eqb (a .cutoff .0) (b .cutoff .0)) after-cutoffs cutoffs))
+        (eqb-true (a .law) (b .law) (and-left (eqb (a .law) (b .law)) multipliers laws))
+        (eqb-true (a .multiplier) (b .multiplier) (and-right (eqb (a .law) (b .law)) multipliers laws)),
     λ e.
         and-both (eq-eqb (a .pickup .0) (b .pickup .0) (λ t. e t .pickup .0))
-        (and-both (eq-eqb (a .delay) (b .delay) (λ t. e t .delay)) (eq-eqb (a .cutoff .0) (b .cutoff .0) (λ t. e t .cutoff .0))),
+        (and-both (eq-eqb (a .delay) (b .delay) (λ t. e t .delay))
+        (and-both (eq-eqb (a .cutoff .0) (b .cutoff .0) (λ t. e t .cutoff .0))
+        (and-both (eq-eqb (a .law) (b .law) (λ t. e t .law)) (eq-eqb (a .multiplier) (b .multiplier) (λ t. e t .multiplier))))),
   )
 
   pub other-card-row : (a ≡ b → ⊥) → false ≡ sameCardRow a b
   other-card-row n = sym (fails (sameCardRow a b) (λ e. n (same-card-row-exactly .0 e)))
 
-  -- the cutoffs are left to compare
-  pub same-but-cutoff : a .pickup .0 ≡ b .pickup .0 → a .delay ≡ b .delay → eqb (a .cutoff .0) (b .cutoff .0) ≡ sameCardRow a b
-  same-but-cutoff p d = sym (ap₂ (λ (x y : Bool). x && (y && cutoffs)) (eq-eqb (a .pickup .0) (b .pickup .0) p) (eq-eqb (a .delay) (b .delay) d))
+  -- the multipliers are left to compare
+  pub same-but-multiplier :
+      a .pickup .0 ≡ b .pickup .0 → a .delay ≡ b .delay → a .cutoff .0 ≡ b .cutoff .0 → a .law ≡ b .law → multipliers ≡ sameCardRow a b
+  same-but-multiplier p d q w =
+      sym
+      (λ t.
+      eq-eqb (a .pickup .0) (b .pickup .0) p t &&
+      (eq-eqb (a .delay) (b .delay) d t && (eq-eqb (a .cutoff .0) (b .cutoff .0) q t && (eq-eqb (a .law) (b .law) w t && multipliers))))
 
 pub column-of : (c : List ℕ) (i k : ℕ) → k < columnCount → column c i k ≡ getD (columnsOf (cardRowAt c i)) k 0
 column-of c i zero h = refl
 column-of c i (suc zero) h = refl
 column-of c i (suc (suc zero)) h = refl
-column-of c i (suc (suc (suc k))) h = absurd (omega arith)
+column-of c i (suc (suc (suc zero))) h = refl
+column-of c i (suc (suc (suc (suc zero)))) h = refl
+column-of c i (suc (suc (suc (suc (suc k))))) h = absurd (omega arith)
 
 module _ (c : List ℕ) (i : ℕ) (k : CardRow) where
   pub putCardRow-length : length (putCardRow c i k) ≡ length c
@@ -61,14 +83,15 @@ module _ (c : List ℕ) (i : ℕ) (k : CardRow) where
 
   pub putCardRow-own : i * columnCount + columnCount ≤ length c → cardRowAt (putCardRow c i k) i ≡ k
   unfolding putCardRow
-  putCardRow-own h = same-columns (own 0 (omega arith)) (own 1 (omega arith)) (own 2 (omega arith))
+  putCardRow-own h = same-columns (own 0 (omega arith)) (own 1 (omega arith)) (own 2 (omega arith)) (own 3 (omega arith)) (own 4 (omega arith))
     where
       own : (x : ℕ) → x < columnCount → column (putCardRow c i k) i x ≡ getD (columnsOf k) x 0
       own x b = block-own columnCount c i (columnsOf k) x b h
 
   pub putCardRow-other : (j : ℕ) → j ≢ i → cardRowAt (putCardRow c i k) j ≡ cardRowAt c j
   unfolding putCardRow
-  putCardRow-other j n = same-columns (other 0 (omega arith)) (other 1 (omega arith)) (other 2 (omega arith))
+  putCardRow-other j n =
+      same-columns (other 0 (omega arith)) (other 1 (omega arith)) (other 2 (omega arith)) (other 3 (omega arith)) (other 4 (omega arith))
     where
       other : (x : ℕ) → x < columnCount → column (putCardRow c i k) j x ≡ column c j x
       other x b = block-other columnCount c i (columnsOf k) j x n b (omega arith)

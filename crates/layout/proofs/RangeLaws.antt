@@ -15,7 +15,7 @@ use Rattle.layout.specs.declared.CardRow.{CardRow}
 use Rattle.layout.specs.Card.{column, cardRowAt, columnBoundsTo}
 use Rattle.layout.specs.Counts.{fieldCount, columnCount}
 use Rattle.layout.specs.Fields.{atFeeder, atKind, atVolts, atWork, atSelfstart, atReturn, atFar, atClear, atNear, atFactor, atLow, atHigh, atStep}
-use Rattle.layout.specs.Fields.{atDevice, atFloor, atCeiling, atBacked, atPrimary, atSecondary, leastIn, greatestIn, inBounds}
+use Rattle.layout.specs.Fields.{atDevice, atFloor, atCeiling, atBacked, atPrimary, atSecondary, atLaw, atGreatest, leastIn, greatestIn, inBounds}
 use Rattle.sides.specs.Sides.{milliamperes, keyed, RatingsFit}
 use Rattle.layout.specs.List.{field, rowAt, boundsAt}
 use Rattle.layout.specs.Range.{Within, namedCount, Bounded, CardRowInRange}
@@ -31,7 +31,7 @@ in-bounds-exactly table k x = (
   λ w. and-both (le-leb _ _ (w .0)) (le-leb _ _ (w .1)),
 )
 
--- all fields but the first within it, and the two ratings beside each other: the row is as section 2 and request §1 say
+-- all fields but the first within it, and the two ratings beside each other: the row is as section 2 and requests §1 and §3 say
 pub within-bounded :
     (l : List ℕ) (i : ℕ) → ((k : ℕ) → 1 ≤ k → k < namedCount → Within (boundsAt l i) k (field l i k)) →
     RatingsFit (field l i atPrimary) (field l i atSecondary) → Bounded (rowAt l i)
@@ -68,6 +68,9 @@ within-bounded l i w s =
       ceiling-to = w atCeiling (omega arith) (omega arith) .1;
       backed-to = w atBacked (omega arith) (omega arith) .1;
       rated = record { primary-to = w atPrimary (omega arith) (omega arith) .1; secondary-fits = s };
+      law-to = w atLaw (omega arith) (omega arith) .1;
+      greatest-from = mul-le-mul-left 5 (w atGreatest (omega arith) (omega arith) .0);
+      greatest-to = mul-le-mul-left 5 (w atGreatest (omega arith) (omega arith) .1);
     }
 
 -- field k is the n-th, or one below it
@@ -92,7 +95,9 @@ pub bounded-within : (l : List ℕ) (i : ℕ) → Bounded (rowAt l i) → (k : �
 bounded-within l i b k h =
     let is-or = one-below l i k in
     let current = of-fifths 1 100000000 in
-    is-or atSecondary (omega arith, secondary-to (field l i atPrimary) (field l i atSecondary) (b .rated .secondary-fits))
+    is-or atGreatest (current (field l i atGreatest) (b .greatest-from) (b .greatest-to))
+    (is-or atLaw (omega arith, b .law-to)
+    (is-or atSecondary (omega arith, secondary-to (field l i atPrimary) (field l i atSecondary) (b .rated .secondary-fits))
     (is-or atPrimary (omega arith, b .rated .primary-to)
     (is-or atBacked (omega arith, b .backed-to)
     (is-or atCeiling (omega arith, b .ceiling-to)
@@ -110,7 +115,7 @@ bounded-within l i b k h =
     (is-or atWork (current (field l i atWork) (b .work-from) (b .work-to))
     (is-or atVolts (b .volts-from, b .volts-to)
     (is-or atKind (b .kind-from, b .kind-to)
-    (is-or atFeeder (omega arith, b .feeder-to) (λ g. absurd (omega arith))))))))))))))))))))
+    (is-or atFeeder (omega arith, b .feeder-to) (λ g. absurd (omega arith))))))))))))))))))))))
 
 -- the same of the columns of a card row
 pub columns-exactly :
@@ -122,6 +127,8 @@ columns-exactly most c i = (
     pickup-to = w 0 (omega arith) .1;
     delay-to = w 1 (omega arith) .1;
     cutoff-to = w 2 (omega arith) .1;
+    law-to = w 3 (omega arith) .1;
+    multiplier-to = w 4 (omega arith) .1;
   },
   λ b k h. by-column b k h,
 )
@@ -130,7 +137,9 @@ columns-exactly most c i = (
     by-column b zero h = (b .pickup-from, b .pickup-to)
     by-column b (suc zero) h = (omega arith, b .delay-to)
     by-column b (suc (suc zero)) h = (omega arith, b .cutoff-to)
-    by-column b (suc (suc (suc k))) h = absurd (omega arith)
+    by-column b (suc (suc (suc zero))) h = (omega arith, b .law-to)
+    by-column b (suc (suc (suc (suc zero)))) h = (omega arith, b .multiplier-to)
+    by-column b (suc (suc (suc (suc (suc k))))) h = absurd (omega arith)
 
 -- what is in range is so with a greater most
 pub widen : {m n : ℕ} (s : CardRow) → m ≤ n → CardRowInRange m s → CardRowInRange n s
@@ -140,6 +149,8 @@ widen s h r =
       pickup-to = le-trans (r .pickup-to) h;
       delay-to = r .delay-to;
       cutoff-to = le-trans (r .cutoff-to) h;
+      law-to = r .law-to;
+      multiplier-to = r .multiplier-to;
     }
 
 -- ---- the order of the fields and of the columns, in the second row: field n of it is 100 + n, and so is its column n
@@ -147,8 +158,8 @@ widen s h r =
 pub fields-in-order :
     rowAt
     (
-    1 ∷ 2 ∷ 3 ∷ 4 ∷ 5 ∷ 6 ∷ 7 ∷ 8 ∷ 9 ∷ 10 ∷ 11 ∷ 12 ∷ 13 ∷ 14 ∷ 15 ∷ 16 ∷ 17 ∷ 18 ∷ 19 ∷ 20 ∷
-    101 ∷ 102 ∷ 103 ∷ 104 ∷ 105 ∷ 106 ∷ 107 ∷ 108 ∷ 109 ∷ 110 ∷ 111 ∷ 112 ∷ 113 ∷ 114 ∷ 115 ∷ 116 ∷ 117 ∷ 118 ∷ 119 ∷ 120 ∷ []
+    1 ∷ 2 ∷ 3 ∷ 4 ∷ 5 ∷ 6 ∷ 7 ∷ 8 ∷ 9 ∷ 10 ∷ 11 ∷ 12 ∷ 13 ∷ 14 ∷ 15 ∷ 16 ∷ 17 ∷ 18 ∷ 19 ∷ 20 ∷ 21 ∷ 22 ∷
+    101 ∷ 102 ∷ 103 ∷ 104 ∷ 105 ∷ 106 ∷ 107 ∷ 108 ∷ 109 ∷ 110 ∷ 111 ∷ 112 ∷ 113 ∷ 114 ∷ 115 ∷ 116 ∷ 117 ∷ 118 ∷ 119 ∷ 120 ∷ 121 ∷ 122 ∷ []
     )
     1 ≡
     record {
@@ -170,8 +181,12 @@ pub fields-in-order :
       ceiling = 117;
       backed = 118;
       ratio = record { primary = 119; secondary = 120 };
+      law = 121;
+      greatest = milliamperes 122;
     }
 fields-in-order = refl
 
-pub columns-in-order : cardRowAt (1 ∷ 2 ∷ 3 ∷ 101 ∷ 102 ∷ 103 ∷ []) 1 ≡ record { pickup = keyed 101; delay = 102; cutoff = keyed 103 }
+pub columns-in-order :
+    cardRowAt (1 ∷ 2 ∷ 3 ∷ 4 ∷ 5 ∷ 101 ∷ 102 ∷ 103 ∷ 104 ∷ 105 ∷ []) 1 ≡
+    record { pickup = keyed 101; delay = 102; cutoff = keyed 103; law = 104; multiplier = 105 }
 columns-in-order = refl

@@ -5,7 +5,7 @@ use Prim.Native.Nat.{ℕ, _<_}
 use native.Mathlib.Omega.{arith}
 use Rattle.layout.specs.Counts.{fieldCount}
 use Rattle.layout.specs.Fields.{atFeeder, atKind, atVolts, atWork, atSelfstart, atReturn, atFar, atClear, atNear, atFactor, atLow, atHigh, atStep}
-use Rattle.layout.specs.Fields.{atDevice, atFloor, atCeiling, atBacked, atPrimary, atSecondary}
+use Rattle.layout.specs.Fields.{atDevice, atFloor, atCeiling, atBacked, atPrimary, atSecondary, atLaw, atGreatest}
 use Rattle.sides.specs.Sides.{milliamperes, keyed}
 use Rattle.layout.specs.List.{field, rowAt}
 
@@ -31,4 +31,6 @@ same-row l l′ j e =
       ceiling = e atCeiling (omega arith) t;
       backed = e atBacked (omega arith) t;
       ratio = record { primary = e atPrimary (omega arith) t; secondary = e atSecondary (omega arith) t };
+      law = e atLaw (omega arith) t;
+      greatest = milliamperes (e atGreatest (omega arith) t);
     }

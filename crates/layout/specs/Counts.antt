@@ -4,11 +4,11 @@ use Prim.Native.Nat.{ℕ, _*_}
 
 -- a row of a list has so many fields
 abbrev pub fieldCount : ℕ
-fieldCount = 20
+fieldCount = 22
 
 -- a row of a card has so many numbers, its columns
 abbrev pub columnCount : ℕ
-columnCount = 3
+columnCount = 5
 
 -- a list has at most so many rows, and a list and a card so many numbers
 abbrev pub rowsMost : ℕ

@@ -1,4 +1,4 @@
--- [01 §2], [02 §1] The table of fields: their names by index, counted from 0, and the numbers allowed in each. Definitions only.
+-- [01 §2], [02 §1, §3] The table of fields: their names by index, counted from 0, and the numbers allowed in each. Definitions only.
 use mathlib.Core.Bool.{Bool, _&&_}
 use mathlib.Core.List.{List, [], _∷_}
 use Prim.Native.Nat.{ℕ, _+_, _*_}
@@ -64,7 +64,14 @@ atPrimary = 18
 abbrev pub atSecondary : ℕ
 atSecondary = 19
 
--- the least and the greatest number allowed in each field, in the order of section 2's table, then request §1's two; low, high and step
+-- the law of the row's time, and the greatest current at its near end
+abbrev pub atLaw : ℕ
+atLaw = 20
+
+abbrev pub atGreatest : ℕ
+atGreatest = 21
+
+-- the least and the greatest number allowed in each field, in the order of section 2's table, then two of request §1 and two of §3; low, high and step
 -- go to `most`
 abbrev pub boundsTo : ℕ → List ℕ
 boundsTo most =
@@ -88,6 +95,8 @@ boundsTo most =
     0 ∷ 1 ∷  -- backed
     0 ∷ 20000 ∷  -- rated_primary
     0 ∷ 5 ∷  -- rated_secondary
+    0 ∷ 2 ∷  -- law
+    1 ∷ 100000000 ∷  -- near_greatest
     []
 
 -- the least and the greatest number of entry k of such a table, and a number between them

@@ -1,4 +1,4 @@
--- [01 §2], [02 §1] A list lent as numbers: its rows one after the other, field by field. Rows and fields are counted from 0:
+-- [01 §2], [02 §1, §3] A list lent as numbers: its rows one after the other, field by field. Rows and fields are counted from 0:
 -- index i is row number i + 1. Definitions only.
 use mathlib.Core.List.{List}
 use Prim.Native.Nat.{ℕ, _+_, _*_, _/_}
@@ -6,7 +6,7 @@ use lib.ListN.{length, getD}
 use Rattle.layout.specs.declared.Row.{Row}
 use Rattle.layout.specs.Counts.{fieldCount}
 use Rattle.layout.specs.Fields.{atFeeder, atKind, atVolts, atWork, atSelfstart, atReturn, atFar, atClear, atNear, atFactor, atLow, atHigh, atStep}
-use Rattle.layout.specs.Fields.{atDevice, atFloor, atCeiling, atBacked, atPrimary, atSecondary, boundsTo}
+use Rattle.layout.specs.Fields.{atDevice, atFloor, atCeiling, atBacked, atPrimary, atSecondary, atLaw, atGreatest, boundsTo}
 use Rattle.sides.specs.Sides.{milliamperes, keyed, settingMost}
 
 -- how many whole rows a list has
@@ -21,7 +21,7 @@ field l i k = getD l (i * fieldCount + k) 0
 abbrev pub boundsAt : List ℕ → ℕ → List ℕ
 boundsAt l i = boundsTo (settingMost (field l i atPrimary))
 
--- row i, its fields 2 to 20: currents on the primary side, but low, high and step as they are keyed at the relay
+-- row i, its fields 2 to 22: currents on the primary side, but low, high and step as they are keyed at the relay
 abbrev pub rowAt : List ℕ → ℕ → Row
 rowAt l i =
     record {
@@ -43,4 +43,6 @@ rowAt l i =
       ceiling = field l i atCeiling;
       backed = field l i atBacked;
       ratio = record { primary = field l i atPrimary; secondary = field l i atSecondary };
+      law = field l i atLaw;
+      greatest = milliamperes (field l i atGreatest);
     }

@@ -1,4 +1,4 @@
--- [01 §2; §4, 9 CARD], [02 §1] The tables of bounds as inequalities, by the names of the fields and columns: what a reader holds against
+-- [01 §2; §4, 9 CARD], [02 §1, §3] The tables of bounds as inequalities, by the names of the fields and columns: what a reader holds against
 -- the documents, and what the tables are proved to say. Definitions only.
 use mathlib.Core.List.{List}
 use Prim.Native.Nat.{ℕ, _*_, _≤_, _<_}
@@ -14,7 +14,7 @@ Within table k x = (leastIn table k ≤ x) × (x ≤ greatestIn table k)
 
 -- the row's own number and the fields that `Row` names are so many; one that is added later is named there when it is used
 abbrev pub namedCount : ℕ
-namedCount = 20
+namedCount = 22
 
 -- the fields that `Row` names lie within section 2's table, primary currents in fifths of a mA; low, high and step within what the row's
 -- rated primary leaves them, and its two ratings fit each other
@@ -50,6 +50,9 @@ pub record Bounded (r : Row) : Type 0 where
   pub ceiling-to : r .ceiling ≤ 100000
   pub backed-to : r .backed ≤ 1
   pub rated : Rated (r .ratio)
+  pub law-to : r .law ≤ 2
+  pub greatest-from : 5 * 1 ≤ r .greatest .0
+  pub greatest-to : r .greatest .0 ≤ 5 * 100000000
 
 -- every row of a view does
 abbrev pub AllBounded : View → Type 0
@@ -61,3 +64,5 @@ pub record CardRowInRange (most : ℕ) (s : CardRow) : Type 0 where
   pub pickup-to : s .pickup .0 ≤ most
   pub delay-to : s .delay ≤ 100000
   pub cutoff-to : s .cutoff .0 ≤ most
+  pub law-to : s .law ≤ 2
+  pub multiplier-to : s .multiplier ≤ 1500

@@ -15,9 +15,9 @@ ghost use Rattle.layout.specs.List.{field, rowAt};
 ghost use Rattle.layout.specs.Range.{Bounded};
 
 // A row of a list has so many fields, a row of a card so many columns, and a list so many rows at most.
-pub const FIELDS: usize = 20;
+pub const FIELDS: usize = 22;
 
-pub const COLUMNS: usize = 3;
+pub const COLUMNS: usize = 5;
 
 pub const ROWS: usize = 256;
 
@@ -65,7 +65,11 @@ pub const AT_PRIMARY: usize = 18;
 
 pub const AT_SECONDARY: usize = 19;
 
-// The least and the greatest number allowed, field by field [01 §2], [02 §1]; low, high and step go to `most`.
+pub const AT_LAW: usize = 20;
+
+pub const AT_GREATEST: usize = 21;
+
+// The least and the greatest number allowed, field by field [01 §2], [02 §1, §3]; low, high and step go to `most`.
 pub fn field_bounds(most: u64) -> [u64; 2 * FIELDS]
     ensures { λ r. ⌜ r ≡ boundsTo most ⌝ }
 {
@@ -110,6 +114,10 @@ pub fn field_bounds(most: u64) -> [u64; 2 * FIELDS]
         20000, // rated_primary
         0,
         5, // rated_secondary
+        0,
+        2, // law
+        1,
+        100000000, // near_greatest
     ]
 }
 
@@ -117,7 +125,7 @@ pub fn field_bounds(most: u64) -> [u64; 2 * FIELDS]
 pub fn column_bounds(most: u64) -> [u64; 2 * COLUMNS]
     ensures { λ r. ⌜ r ≡ columnBoundsTo most ⌝ }
 {
-    [1, most, 0, 100000, 0, most]
+    [1, most, 0, 100000, 0, most, 0, 2, 0, 1500]
 }
 
 // A number against entry k of such a table.
@@ -131,7 +139,7 @@ pub fn in_bounds(table: &[u64], k: usize, x: u64) -> bool
     x <= table[2 * k + 1]
 }
 
-// What the conditions read of a row: fields 2 to 20, in the list's order [01 §2], [02 §1]. Low, high and step are as
+// What the conditions read of a row: fields 2 to 22, in the list's order [01 §2], [02 §1, §3]. Low, high and step are as
 // they are keyed: secondary mA where the row has a ratio, primary mA where not. Other currents are primary.
 pub struct Row {
     pub feeder: u64,
@@ -152,6 +160,8 @@ pub struct Row {
     pub ceiling: u64,
     pub backed: u64,
     pub ratio: Ratio,
+    pub law: u64,
+    pub greatest: Primary,
 }
 
 pub fn field_at(list: &[u64], i: usize, k: usize) -> u64
@@ -188,6 +198,8 @@ pub fn row_at(list: &[u64], i: usize) -> Row
             primary: list[at + AT_PRIMARY],
             secondary: list[at + AT_SECONDARY],
         },
+        law: list[at + AT_LAW],
+        greatest: Primary(FIFTHS * list[at + AT_GREATEST]),
     }
 }
 
@@ -196,6 +208,8 @@ pub struct CardRow {
     pub pickup: Secondary,
     pub delay: u64,
     pub cutoff: Secondary,
+    pub law: u64,
+    pub multiplier: u64,
 }
 
 pub fn column_at(card: &[u64], i: usize, k: usize) -> u64
@@ -214,6 +228,8 @@ pub fn card_row_at(card: &[u64], i: usize) -> CardRow
         pickup: Secondary(card[at + 0]),
         delay: card[at + 1],
         cutoff: Secondary(card[at + 2]),
+        law: card[at + 3],
+        multiplier: card[at + 4],
     }
 }
 
@@ -221,7 +237,7 @@ pub fn put_card_row(card: &mut [u64], i: usize, k: CardRow)
     requires { ⌜ i * columnCount + columnCount ≤ length (now card) ⌝ }
     ensures { λ _. ⌜ now (card .exit) ≡ putCardRow (now (card .entry)) i k ⌝ }
 {
-    let columns = [k.pickup.0, k.delay, k.cutoff.0];
+    let columns = [k.pickup.0, k.delay, k.cutoff.0, k.law, k.multiplier];
     put(card, i * COLUMNS, &columns);
 }
 
@@ -235,5 +251,11 @@ pub fn same_card_row(a: CardRow, b: CardRow) -> bool
     if a.delay != b.delay {
         return false;
     }
-    a.cutoff.0 == b.cutoff.0
+    if a.cutoff.0 != b.cutoff.0 {
+        return false;
+    }
+    if a.law != b.law {
+        return false;
+    }
+    a.multiplier == b.multiplier
 }

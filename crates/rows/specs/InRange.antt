@@ -15,14 +15,14 @@ use Rattle.layout.specs.List.{rows, field, rowAt, boundsAt}
 use Rattle.layout.specs.Range.{Within, namedCount, Bounded}
 use Rattle.sides.specs.Sides.{RatingsFit}
 
--- a list of 1 to 256 whole rows of 20 numbers
+-- a list of 1 to 256 whole rows of 22 numbers
 pub record RightSize (l : List ℕ) : Type 0 where
   pub count : ℕ
   pub whole-rows : length l ≡ count * fieldCount
   pub some : 1 ≤ count
   pub most : count ≤ rowsMost
 
--- a lent card of so many numbers has 3 for each row
+-- a lent card of so many numbers has 5 for each row
 abbrev pub HasRoom : List ℕ → ℕ → Type 0
 HasRoom l room = rows l * columnCount ≤ room
 
@@ -48,7 +48,7 @@ pub record FedRightly (l : List ℕ) (i : ℕ) : Type 0 where
 abbrev pub Feeds : List ℕ → Type 0
 Feeds l = (i : ℕ) → i < rows l → FedRightly l i
 
--- field k of row i is right by itself: the first is the row's own number, the others lie within the table, and the last fits field 19
+-- field k of row i is right by itself: the first is the row's own number, the others lie within the table, and field 20 fits field 19
 pub record FieldInRange (l : List ℕ) (i k : ℕ) : Type 0 where
   pub own-number : k ≡ 0 → field l i k ≡ i + 1
   pub within : 1 ≤ k → Within (boundsAt l i) k (field l i k)

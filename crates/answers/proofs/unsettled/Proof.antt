@@ -29,6 +29,9 @@ enum-told-2 c = search needs
 enum-known-cause : tie.Need-enum-known-cause
 enum-known-cause c = search needs
 
+enum-known-why-2 : tie.Need-enum-known-why-2
+enum-known-why-2 c = search needs
+
 enum-told-3 : tie.Need-enum-told-3
 enum-told-3 c = search needs
 
@@ -42,7 +45,10 @@ returns-3 : tie.Need-returns-3
 returns-3 c = by-cause _ (c .before .before .before .before .why .given .1) (c .before .cause .given .1)
 
 returns-4 : tie.Need-returns-4
-returns-4 c = by-reason _ (c .enum-told3 .given .1)
+returns-4 c = by-reason _ (c .before .why2 .given .1)
+
+returns-5 : tie.Need-returns-5
+returns-5 c = by-reason _ (c .enum-told3 .given .1)
 
 pub unsettled-spec : {M : Type 1} → statement M
 unsettled-spec =
@@ -52,8 +58,10 @@ unsettled-spec =
     enum-told
     enum-told-2
     enum-known-cause
+    enum-known-why-2
     enum-told-3
     returns
     returns-2
     returns-3
-    returns-4)
+    returns-4
+    returns-5)
