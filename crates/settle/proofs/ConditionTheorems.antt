@@ -12,8 +12,8 @@ use Rattle.layout.specs.declared.Row.{Row}
 use Rattle.layout.specs.View.{View, Settings}
 use Rattle.sides.specs.declared.Primary.{Primary}
 use Rattle.settle.specs.Conditions.{pickupAt, fed, othersLoad, returnsAfterSelfStart, clearOf, seesOwnZone, backsUp}
-use Rattle.settle.specs.Conditions.{withinDelays, margin, marginBetween, gradedAbove, staysClear, seesNear}
-use Rattle.settle.specs.Inequalities.{GradedAbove, SeesNear}
+use Rattle.settle.specs.Conditions.{timeAt, fedTime, withinDelays, margin, marginBetween, gradedAbove, staysClear, seesNear}
+use Rattle.settle.specs.Inequalities.{WithinDelays, GradedAbove, SeesNear}
 
 -- a test of two numbers passes exactly where the one is at most the other
 at-most : (a b : ℕ) → (leb a b ≡ true) ↔ (a ≤ b)
@@ -42,7 +42,7 @@ P4-exactly r f I = (
   λ h. implied (eqb (f .backed) 1) _ (λ t. le-leb (12 * I .0 * r .volts) (10 * f .far .0 * f .volts) (h (eqb-true (f .backed) 1 t))),
 )
 
-pub D1-exactly : (r : Row) (t : ℕ) → (withinDelays r t ≡ true) ↔ ((r .floor ≤ t) × (t ≤ r .ceiling) × (r .kind ≡ 3 → 100 ≤ t))
+pub D1-exactly : (r : Row) (t : ℕ) → (withinDelays r t ≡ true) ↔ WithinDelays r t
 unfolding withinDelays
 D1-exactly r t = (
   λ e.
@@ -58,13 +58,13 @@ D1-exactly r t = (
 )
 
 -- [02 §5] to keep the larger of the two rows' steps is to keep both
-pub D2-exactly : (r f : Row) (s : CardRow) (t : ℕ) → (gradedAbove r f s t ≡ true) ↔ GradedAbove r f s t
+pub D2-exactly : (r f : Row) (s : CardRow) (I : Primary) (x : ℕ) → (gradedAbove r f s I x ≡ true) ↔ GradedAbove r f s I x
 unfolding gradedAbove marginBetween
-D2-exactly r f s t = (
+D2-exactly r f s I x = (
   λ e.
-      let later = leb-true (s .delay + marginBetween (r .device) (f .device)) t e in
+      let later = leb-true (fedTime f s + marginBetween (r .device) (f .device)) (timeAt r f I x) e in
       record { fed-step = omega arith; own-step = omega arith },
-  λ h. le-leb (s .delay + marginBetween (r .device) (f .device)) t (omega (arith, h .fed-step, h .own-step)),
+  λ h. le-leb (fedTime f s + marginBetween (r .device) (f .device)) (timeAt r f I x) (omega (arith, h .fed-step, h .own-step)),
 )
 
 -- the step is 300, 500 or 200 for device 1, 2 or 3

@@ -74,12 +74,10 @@ module _ (r : Row) (p : 0 < r .step .0) where
       so (not-fitted n) = none (leastPickup r (staysClear r)) refl n
 
 -- what the card shows: the cutoff's pickup, or 0 where none is fitted
-pub shown-fitted :
-    (I : Secondary) (t : ℕ) (C : Secondary) → shown (record { pickup = I; delay = t; cutoff = Fitted C }) ≡ record { pickup = I; delay = t; cutoff = C }
+pub shown-fitted : (I : Secondary) (w x : ℕ) (C : Secondary) → shown (record { pickup = I; law = w; setting = x; cutoff = Fitted C }) .cutoff ≡ C
 unfolding shown printed
-shown-fitted I t C = refl
+shown-fitted I w x C = refl
 
-pub shown-not-fitted :
-    (I : Secondary) (t : ℕ) → shown (record { pickup = I; delay = t; cutoff = NotFitted }) ≡ record { pickup = I; delay = t; cutoff = keyed 0 }
+pub shown-not-fitted : (I : Secondary) (w x : ℕ) → shown (record { pickup = I; law = w; setting = x; cutoff = NotFitted }) .cutoff ≡ keyed 0
 unfolding shown printed
-shown-not-fitted I t = refl
+shown-not-fitted I w x = refl

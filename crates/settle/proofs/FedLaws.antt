@@ -1,4 +1,4 @@
--- Settling a row by the four numbers gathered from its fed rows is settling it by section 3.
+-- Settling a row by the three numbers gathered from its fed rows is settling it by section 3.
 use mathlib.Core.Path.{_≡_, refl, sym, ap, _∙_}
 use mathlib.Core.Bool.{Bool, true, false, not, cond, _&&_, and-false, and-true}
 use mathlib.Core.Logic.{_↔_, _⊎_, inl, inr, ⊎-elim}
@@ -14,10 +14,10 @@ use Rattle.layout.specs.declared.Row.{Row}
 use Rattle.layout.specs.View.{View, Settings}
 use Rattle.layout.specs.Range.{AllBounded}
 use Rattle.sides.specs.declared.Primary.{Primary}
-use Rattle.settle.specs.Conditions.{pickupAt, fed, eachFed, loadOf, othersLoad, returnsAfterSelfStart, clearOf, withinDelays, gradedAbove}
-use Rattle.settle.specs.Fed.{reach, excess, shortfall, earliest, gathered, clearOfAll, backsUpAll, unbackedBy, lowerBy, pickedBy, delayBy, settledBy}
+use Rattle.settle.specs.Conditions.{pickupAt, fed, eachFed, loadOf, othersLoad, returnsAfterSelfStart, clearOf}
+use Rattle.settle.specs.Fed.{reach, excess, shortfall, gathered, clearOfAll, backsUpAll, unbackedBy, lowerBy, pickedBy, settledBy}
 use Rattle.settle.specs.Inequalities.{Feeding, BacksUp}
-use Rattle.settle.specs.Settle.{meetsLower, firstUnbacked, leastPickup, candidate, picked, meetsDelay, leastDelay, outcomeOf, settled}
+use Rattle.settle.specs.Settle.{meetsLower, firstUnbacked, leastPickup, candidate, picked, stalled, meetsTime, leastSetting, outcomeOf, settled}
 use Rattle.settle.proofs.ConditionTheorems.{P2-exactly, fed-exactly}
 use Rattle.settle.proofs.MeetsTheorems.{each-fed-at, each-fed-of, backed-all-exactly}
 use Rattle.settle.proofs.PickupLaws.{current-volts, load-bounded}
@@ -151,41 +151,14 @@ module _ (v : View) (a : AllBounded v) (k : Settings) (i : ℕ) (h : i < v .coun
       (λ (t : backsUpAll (v .row i) (gathered v k i) I ≡ false). rw t)
       (passes-or-fails (backsUpAll (v .row i) (gathered v k i) I))
 
-  -- the earliest delay of row i for row j; D2 for every fed row, and for the greatest of these
-  abbrev earliest-for : ℕ → ℕ
-  earliest-for j = earliest (v .row i .device) (v .row j) (k j)
-
-  pub graded-all : (t : ℕ) → leb (gathered v k i .earliest) t ≡ eachFed v i (λ j. gradedAbove (v .row i) (v .row j) (k j) t)
-  unfolding gradedAbove
-  graded-all t =
-      same-test _ _
-      (λ e.
-      each-fed-of v i (λ j. gradedAbove (v .row i) (v .row j) (k j) t)
-      (λ j b g.
-      le-leb (earliest-for j) t
-      (omega (
-        arith,
-        leb-true (gathered v k i .earliest) t e,
-        le-maxTo (λ j. cond (fed v i j) (earliest-for j) 0) (v .count) j b,
-        counted-fed (earliest-for j) g,
-      ))))
-      (λ e.
-      le-leb (gathered v k i .earliest) t
-      (⊎-elim
-      (λ z. omega arith)
-      (λ m.
-      let c : earliest-for (m .at) ≤ t = leb-true _ _
-      (each-fed-at v i (λ j. gradedAbove (v .row i) (v .row j) (k j) t) e (m .at) (m .below) (m .counts)) in
-      omega (arith, m .is))
-      (greatest (fed v i) earliest-for (v .count))))
-
-  -- a row settled by the four numbers is settled by section 3
-  pub settled-by : settledBy v i (v .row i) (gathered v k i) ≡ settled v k i
-  unfolding settledBy pickedBy lowerBy settled candidate meetsLower delayBy meetsDelay
+  -- a row settled by the three numbers is settled by section 3
+  pub settled-by : settledBy v k i (v .row i) (gathered v k i) ≡ settled v k i
+  unfolding settledBy pickedBy lowerBy settled candidate meetsLower
   settled-by =
       λ t.
       outcomeOf (v .row i)
       (picked (v .row i)
       (leastPickup (v .row i) (λ I. returnsAfterSelfStart (v .row i) I && clear-of-all I t))
       (λ I. backs-found I t))
-      (leastDelay (v .row i) (λ d. withinDelays (v .row i) d && graded-all d t))
+      (stalled v k i (v .row i))
+      (λ I. leastSetting (v .row i) (meetsTime v k i (v .row i) I))

@@ -7,9 +7,13 @@ pub mod LeastPickupLaws
 pub mod ListRange
 pub mod MarginLaws
 pub mod MeetsTheorems
-pub mod PickupLaws
 pub mod MultipliedOut
 pub mod OutcomeLaws
+pub mod PickupLaws
 pub mod SameLaws
 pub mod SettledTheorems
 pub mod StaysPrimaryTheorems
+pub mod StageLaws
+pub mod TimeLaws
+pub mod TimeTheorems
+pub mod WalkLaws

@@ -1,4 +1,4 @@
--- The conditions of a pickup's load, those of a delay, and P4 of all fed rows: the tests that the contracts cite pass exactly where
+-- The conditions of a pickup's load, and P4 of all fed rows: the tests that the contracts cite pass exactly where
 -- section 3's inequalities hold, those of fed rows for each row that is fed. Read with specs/Inequalities.antt.
 use mathlib.Core.Path.{_≡_}
 use mathlib.Core.Bool.{Bool, true, false, not, _||_}
@@ -12,10 +12,10 @@ use Rattle.fold.proofs.FirstLaws.{first-at, first-is, first-none, first-nothing
 use Rattle.fold.proofs.FoldLaws.{every-at, every-of}
 use Rattle.layout.specs.View.{View, Settings}
 use Rattle.sides.specs.declared.Primary.{Primary}
-use Rattle.settle.specs.Conditions.{fed, eachFed, returnsAfterSelfStart, clearOf, backsUp, withinDelays, gradedAbove}
-use Rattle.settle.specs.Inequalities.{Feeding, LowerMet, BacksUp, FirstUnbacked, DelayMet}
-use Rattle.settle.specs.Settle.{meetsLower, unbacked, firstUnbacked, meetsDelay}
-use Rattle.settle.proofs.ConditionTheorems.{P1-exactly, P2-exactly, P4-exactly, D1-exactly, D2-exactly, fed-exactly}
+use Rattle.settle.specs.Conditions.{fed, eachFed, returnsAfterSelfStart, clearOf, backsUp}
+use Rattle.settle.specs.Inequalities.{Feeding, LowerMet, BacksUp, FirstUnbacked}
+use Rattle.settle.specs.Settle.{meetsLower, unbacked, firstUnbacked}
+use Rattle.settle.proofs.ConditionTheorems.{P1-exactly, P2-exactly, P4-exactly, fed-exactly}
 
 -- what holds for each fed row
 module _ (v : View) (i : ℕ) (ok : ℕ → Bool) where
@@ -26,7 +26,7 @@ module _ (v : View) (i : ℕ) (ok : ℕ → Bool) where
   each-fed-of h = every-of (λ j. not (fed v i j) || ok j) (v .count) (λ j b. implied (fed v i j) (ok j) (h j b))
 
 -- a test asked for each fed row
-each-fed : (v : View) (i : ℕ) (ok : ℕ → Bool) → (eachFed v i ok ≡ true) ↔ ((j : ℕ) → j < v .count → Feeding v i j → ok j ≡ true)
+pub each-fed : (v : View) (i : ℕ) (ok : ℕ → Bool) → (eachFed v i ok ≡ true) ↔ ((j : ℕ) → j < v .count → Feeding v i j → ok j ≡ true)
 each-fed v i ok = (
   λ t j b f. each-fed-at v i ok t j b (fed-exactly v i j .1 f),
   λ h. each-fed-of v i ok (λ j b g. h j b (fed-exactly v i j .0 g)),
@@ -47,23 +47,6 @@ module _ (v : View) (k : Settings) (i : ℕ) where
     λ h.
         and-both (P1-exactly (v .row i) I .1 (h .P1))
         (each-fed v i (λ j. clearOf v k i j I) .1 (λ j b f. P2-exactly v k i j I .1 (h .P2 j b f))),
-  )
-
-  pub delay-exactly : (t : ℕ) → (meetsDelay v k i t ≡ true) ↔ DelayMet v k i t
-  unfolding meetsDelay
-  delay-exactly t = (
-    λ e.
-        let d = D1-exactly (v .row i) t .0 (and-left (withinDelays (v .row i) t) _ e) in
-        record {
-          D1 = d;
-          D2 =
-              λ j b f.
-              D2-exactly (v .row i) (v .row j) (k j) t .0
-              (each-fed v i (λ j. gradedAbove (v .row i) (v .row j) (k j) t) .0 (and-right (withinDelays (v .row i) t) _ e) j b f);
-        },
-    λ h.
-        and-both (D1-exactly (v .row i) t .1 (h .D1))
-        (each-fed v i (λ j. gradedAbove (v .row i) (v .row j) (k j) t) .1 (λ j b f. D2-exactly (v .row i) (v .row j) (k j) t .1 (h .D2 j b f))),
   )
 
 -- P4 for the fed rows ascending, of pickup I

@@ -1,15 +1,12 @@
--- A pickup and a delay judged by the four numbers: lower bounds rounded up, upper tests, and the least value between.
+-- A pickup judged by the three numbers: lower bounds rounded up, and that what is found fits.
 use mathlib.Core.Path.{_≡_, ap, ap₂, _∙_}
-use mathlib.Core.Bool.{Bool, true, false, not, cond, _&&_, _||_}
+use mathlib.Core.Bool.{Bool, _&&_}
 use Prim.Native.Nat.{ℕ, _+_, _-_, _*_, _≤_, max}
 use native.Mathlib.Nat.{mul-le-mul, mul-right-comm, le-trans}
-use native.Mathlib.Omega.{arith}
-use lib.Dec.{leb, eqb}
-use borrow.Author.Tests.{le-leb}
-use Rattle.fold.specs.declared.Found.{Found}
+use lib.Dec.{leb}
 use Rattle.fold.specs.declared.Found.the-variants.{At}
 use Rattle.grid.specs.Grid.{leastOn}
-use Rattle.grid.proofs.GridLaws.{leastOn-same, leastOn-least}
+use Rattle.grid.proofs.GridLaws.{leastOn-least}
 use Rattle.grid.proofs.RoundLaws.{max-leb}
 use Rattle.layout.specs.declared.Row.{Row}
 use Rattle.layout.specs.Range.{Bounded}
@@ -17,9 +14,8 @@ use Rattle.settle.specs.declared.Fed.{Fed}
 use Rattle.sides.specs.declared.Secondary.{Secondary}
 use Rattle.sides.specs.Sides.{keyed, settingMost}
 use Rattle.sides.proofs.SidesLaws.{primary-fits}
-use Rattle.settle.specs.Conditions.{primaryOf, returnsAfterSelfStart, withinDelays}
-use Rattle.settle.specs.Fed.{reach, PrimaryBounded, clearOfAll, lowerBy, delayBy}
-use Rattle.settle.specs.Settle.{leastDelay}
+use Rattle.settle.specs.Conditions.{primaryOf, returnsAfterSelfStart}
+use Rattle.settle.specs.Fed.{reach, PrimaryBounded, clearOfAll, lowerBy}
 
 -- a primary current of a list times volts
 pub current-volts : {a b : ℕ} → a ≤ 500000000 → b ≤ 500000 → a * b ≤ 250000000000000
@@ -53,23 +49,3 @@ found-bounded r a ok x e =
 -- and its primary current fits
 pub found-fits : (r : Row) → Bounded r → (x : Secondary) → x .0 ≤ settingMost (r .ratio .primary) → PrimaryBounded (primaryOf r x)
 found-fits r a x h = primary-fits (r .ratio) (a .rated) x h
-
--- a delay between floor and ceiling meets D1 and D2 exactly from the later of the earliest and, for a motor, 100 on
-module _ (r : Row) (f : Fed) where
-  pub least-motor : (m : ℕ) → m ≡ cond (eqb (r .kind) 3) 100 0 → leastDelay r (leb (max (f .earliest) m)) ≡ leastDelay r (delayBy r f)
-  unfolding delayBy withinDelays
-  least-motor m e =
-      leastOn-same (r .floor) (r .ceiling) 1 (omega arith) (leb (max (f .earliest) m)) (delayBy r f)
-      (λ x v.
-      max-leb (f .earliest) m x ∙
-      rw (le-leb (r .floor) x (omega (arith, v .on-grid)), le-leb x (r .ceiling) (v .within), e)
-      (by-kind (eqb (r .kind) 3) (leb (f .earliest) x) x))
-    where
-      by-kind : (k e : Bool) (x : ℕ) → (e && leb (cond k 100 0) x) ≡ ((not k || leb 100 x) && e)
-      by-kind true e x = mathlib.Core.Bool.and-comm e (leb 100 x)
-      by-kind false e x = ap (λ (t : Bool). e && t) (le-leb 0 x (omega arith)) ∙ mathlib.Core.Bool.and-true e
-
-  pub delay-from :
-      (x : Found) (b m : ℕ) → x ≡ leastDelay r (leb b) → b ≡ max (f .earliest) m → m ≡ cond (eqb (r .kind) 3) 100 0 → x ≡ leastDelay
-      r (delayBy r f)
-  delay-from x b m e g k = e ∙ ap (λ (b : ℕ). leastDelay r (leb b)) g ∙ least-motor m k

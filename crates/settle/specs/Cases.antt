@@ -25,11 +25,11 @@ use Rattle.settle.specs.Settle.{shown, settled}
 -- devices are 1, 2, 3 and 1.
 unfoldable pub network : List ℕ
 network =
-    1 ∷ 2 ∷ 1 ∷ 6000 ∷ 10000 ∷ 1100 ∷ 1000 ∷ 90000 ∷ 100000 ∷ 146520 ∷ 1200 ∷ 2100 ∷ 502100 ∷ 10000 ∷ 1 ∷ 0 ∷ 1000 ∷ 1 ∷ 0 ∷ 0 ∷
-    2 ∷ 4 ∷ 2 ∷ 10000 ∷ 30000 ∷ 1000 ∷ 800 ∷ 80000 ∷ 500000 ∷ 1002500 ∷ 1000 ∷ 1250 ∷ 1001250 ∷ 10000 ∷ 2 ∷ 0 ∷ 900 ∷ 0 ∷ 0 ∷ 0 ∷
-    3 ∷ 4 ∷ 3 ∷ 400 ∷ 150000 ∷ 5000 ∷ 1000 ∷ 2250000 ∷ 1000000 ∷ 3050000 ∷ 1500 ∷ 25000 ∷ 9925000 ∷ 100000 ∷ 3 ∷ 0 ∷ 500 ∷ 1 ∷ 0 ∷ 0 ∷
+    1 ∷ 2 ∷ 1 ∷ 6000 ∷ 10000 ∷ 1100 ∷ 1000 ∷ 90000 ∷ 100000 ∷ 146520 ∷ 1200 ∷ 2100 ∷ 502100 ∷ 10000 ∷ 1 ∷ 0 ∷ 1000 ∷ 1 ∷ 0 ∷ 0 ∷ 0 ∷ 146520 ∷
+    2 ∷ 4 ∷ 2 ∷ 10000 ∷ 30000 ∷ 1000 ∷ 800 ∷ 80000 ∷ 500000 ∷ 1002500 ∷ 1000 ∷ 1250 ∷ 1001250 ∷ 10000 ∷ 2 ∷ 0 ∷ 900 ∷ 0 ∷ 0 ∷ 0 ∷ 0 ∷ 1002500 ∷
+    3 ∷ 4 ∷ 3 ∷ 400 ∷ 150000 ∷ 5000 ∷ 1000 ∷ 2250000 ∷ 1000000 ∷ 3050000 ∷ 1500 ∷ 25000 ∷ 9925000 ∷ 100000 ∷ 3 ∷ 0 ∷ 500 ∷ 1 ∷ 0 ∷ 0 ∷ 0 ∷ 3050000 ∷
     4 ∷ 0 ∷ 1 ∷ 6000 ∷ 50000 ∷ 1600 ∷ 880 ∷ 300000 ∷ 1000000 ∷ 1561200 ∷ 1300 ∷ 61000 ∷ 1921000 ∷ 20000 ∷ 1 ∷ 1000 ∷
-    1500 ∷ 0 ∷ 0 ∷ 0 ∷ []
+    1500 ∷ 0 ∷ 0 ∷ 0 ∷ 0 ∷ 1561200 ∷ []
 
 abbrev row : ℕ → Row
 row n = viewOf network .row (n - 1)
@@ -46,7 +46,7 @@ over x = record { 0 = 5 * x + 1 }
 
 -- the settings of the rows below: pickup and delay
 abbrev card : ℕ → ℕ → CardRow
-card I t = record { pickup = keyed I; delay = t; cutoff = keyed 0 }
+card I t = record { pickup = keyed I; delay = t; cutoff = keyed 0; law = 0; multiplier = 0 }
 
 unfoldable pub below : Settings
 below zero = card 20000 400
@@ -74,7 +74,7 @@ abbrev clearAboveAll : ℕ → Primary → Bool
 clearAboveAll n I = eachFed (viewOf network) (n - 1) (λ j. clearOf (viewOf network) below (n - 1) j I)
 
 abbrev laterThan : ℕ → ℕ → ℕ → Bool
-laterThan n m t = gradedAbove (row n) (row m) (below (m - 1)) t
+laterThan n m t = gradedAbove (row n) (row m) (below (m - 1)) (mA 1) t
 
 abbrev stepIs : ℕ → ℕ → ℕ → Bool
 stepIs d e x = eqb (marginBetween d e) x
@@ -142,7 +142,7 @@ abbrev settles : List ℕ → ℕ → List ℕ → Bool
 settles l n k = comesTo l n (0 ∷ k)
 
 abbrev stands : List ℕ → Bool
-stands l = settles l 4 (121000 ∷ 1200 ∷ 1301000 ∷ [])
+stands l = settles l 4 (121000 ∷ 1200 ∷ 1301000 ∷ 0 ∷ 0 ∷ [])
 
 abbrev refuses : List ℕ → ℕ → ℕ → ℕ → Bool
 refuses l n number fed = comesTo l n (number ∷ n ∷ fed ∷ [])
@@ -161,16 +161,16 @@ offers l n low high step = with (with (with l n atLow low) n atHigh high) n atSt
 
 unfoldable pub settlings : List Bool
 settlings =
-    settles network 1 (12100 ∷ 0 ∷ 122100 ∷ [])
-    ∷ settles network 2 (41250 ∷ 900 ∷ 501250 ∷ [])
-    ∷ settles network 3 (825000 ∷ 100 ∷ 1525000 ∷ [])
+    settles network 1 (12100 ∷ 0 ∷ 122100 ∷ 0 ∷ 0 ∷ [])
+    ∷ settles network 2 (41250 ∷ 900 ∷ 501250 ∷ 0 ∷ 0 ∷ [])
+    ∷ settles network 3 (825000 ∷ 100 ∷ 1525000 ∷ 0 ∷ 0 ∷ [])
     ∷ stands network
     -- the least pickup offered is 61,001 + 3 × 20,000; a cutoff at 1,301,001 would not see its near fault
-    ∷ settles (with network 4 atLow 61001) 4 (121001 ∷ 1200 ∷ 0 ∷ [])
+    ∷ settles (with network 4 atLow 61001) 4 (121001 ∷ 1200 ∷ 0 ∷ 0 ∷ 0 ∷ [])
     -- the greatest offered is the pickup, and none is left for the cutoff; one less, and none meets P2, or P1: RANGE
-    ∷ settles (with network 4 atHigh 121000) 4 (121000 ∷ 1200 ∷ 0 ∷ [])
+    ∷ settles (with network 4 atHigh 121000) 4 (121000 ∷ 1200 ∷ 0 ∷ 0 ∷ 0 ∷ [])
     ∷ refuses (with network 4 atHigh 120999) 4 11 0
-    ∷ settles (with network 1 atHigh 12100) 1 (12100 ∷ 0 ∷ 0 ∷ [])
+    ∷ settles (with network 1 atHigh 12100) 1 (12100 ∷ 0 ∷ 0 ∷ 0 ∷ 0 ∷ [])
     ∷ refuses (with network 1 atHigh 12099) 1 11 0
     -- P3 at the least pickup and one off: OWN ZONE. P4 of the motor, row 3, which BACKUP names: the transformer's far is too small too,
     -- but it is not backed. P4 of the transformer, backed
@@ -185,48 +185,48 @@ settlings =
     ∷ refuses (with (with network 3 atFar 2177999) 4 atFar 181499) 4 12 0
     ∷ refuses (with (with network 4 atFar 1) 4 atHigh 120999) 4 11 0
     -- row 1 feeds nothing: far alone, here at 15 × 12,100 = 10 × 18,150
-    ∷ settles (with network 1 atFar 18150) 1 (12100 ∷ 0 ∷ 122100 ∷ [])
+    ∷ settles (with network 1 atFar 18150) 1 (12100 ∷ 0 ∷ 122100 ∷ 0 ∷ 0 ∷ [])
     ∷ refuses (with network 1 atFar 18149) 1 12 0
     -- the delay at the ceiling and one off; from the floor on
     ∷ stands (with network 4 atCeiling 1200)
     ∷ refuses (with network 4 atCeiling 1199) 4 7 0
-    ∷ settles (with network 4 atFloor 1201) 4 (121000 ∷ 1201 ∷ 1301000 ∷ [])
-    ∷ settles (with network 3 atCeiling 100) 3 (825000 ∷ 100 ∷ 1525000 ∷ [])
+    ∷ settles (with network 4 atFloor 1201) 4 (121000 ∷ 1201 ∷ 1301000 ∷ 0 ∷ 0 ∷ [])
+    ∷ settles (with network 3 atCeiling 100) 3 (825000 ∷ 100 ∷ 1525000 ∷ 0 ∷ 0 ∷ [])
     ∷ refuses (with network 3 atCeiling 99) 3 7 0
     -- the row's own device at the ceiling and one off; device 3 waits for the fed row's 300
     ∷ refuses (with network 2 atCeiling 899) 2 7 0
-    ∷ settles (with (with network 2 atDevice 3) 2 atCeiling 700) 2 (41250 ∷ 700 ∷ 501250 ∷ [])
+    ∷ settles (with (with network 2 atDevice 3) 2 atCeiling 700) 2 (41250 ∷ 700 ∷ 501250 ∷ 0 ∷ 0 ∷ [])
     ∷ refuses (with (with network 2 atDevice 3) 2 atCeiling 699) 2 7 0
     -- neither a pickup nor a delay: 11, 12 and 13 before 7
     ∷ refuses (with (with network 4 atHigh 120999) 4 atCeiling 1199) 4 11 0
     ∷ refuses (with (with network 4 atFar 181499) 4 atCeiling 1199) 4 12 0
     ∷ refuses (with (with network 3 atFar 2177999) 4 atCeiling 1199) 4 13 3
     -- the cutoff of a line one off, and the same row as a transformer
-    ∷ settles (with network 4 atNear 1561199) 4 (121000 ∷ 1200 ∷ 0 ∷ [])
-    ∷ settles (with network 4 atKind 2) 4 (121000 ∷ 1200 ∷ 0 ∷ [])
+    ∷ settles (with network 4 atNear 1561199) 4 (121000 ∷ 1200 ∷ 0 ∷ 0 ∷ 0 ∷ [])
+    ∷ settles (with network 4 atKind 2) 4 (121000 ∷ 1200 ∷ 0 ∷ 0 ∷ 0 ∷ [])
     ∷ stands (with (with network 4 atKind 2) 4 atNear 2602000)
-    ∷ settles (with (with network 4 atKind 2) 4 atNear 2601999) 4 (121000 ∷ 1200 ∷ 0 ∷ [])
+    ∷ settles (with (with network 4 atKind 2) 4 atNear 2601999) 4 (121000 ∷ 1200 ∷ 0 ∷ 0 ∷ 0 ∷ [])
     -- [02 §1] row 1 at 100 / 5, P1: 605 × 20 = 12,100, and 604 is too low; its cutoff 6,000 × 20 = 120,000
-    ∷ settles (with (with (ratio network 1 100 5) 1 atLow 605) 1 atStep 5395) 1 (605 ∷ 0 ∷ 6000 ∷ [])
-    ∷ settles (offers (ratio network 1 100 5) 1 604 605 1) 1 (605 ∷ 0 ∷ 0 ∷ [])
+    ∷ settles (with (with (ratio network 1 100 5) 1 atLow 605) 1 atStep 5395) 1 (605 ∷ 0 ∷ 6000 ∷ 0 ∷ 0 ∷ [])
+    ∷ settles (offers (ratio network 1 100 5) 1 604 605 1) 1 (605 ∷ 0 ∷ 0 ∷ 0 ∷ 0 ∷ [])
     ∷ refuses (offers (ratio network 1 100 5) 1 604 604 1) 1 11 0
     -- at 11 / 1: 1,100 × 11 = 12,100, and the cutoff 11,100 × 11 = 122,100
-    ∷ settles (offers (ratio network 1 11 1) 1 1100 11100 10000) 1 (1100 ∷ 0 ∷ 11100 ∷ [])
+    ∷ settles (offers (ratio network 1 11 1) 1 1100 11100 10000) 1 (1100 ∷ 0 ∷ 11100 ∷ 0 ∷ 0 ∷ [])
     ∷ refuses (offers (ratio network 1 11 1) 1 1099 1099 1) 1 11 0
     -- row 4 at 7 / 5, P2: 86,429 × 1.4 = 121,000.6 clears the 121,000 asked, 86,428 × 1.4 = 120,999.2 does not
-    ∷ settles (offers (ratio network 4 7 5) 4 86428 86429 1) 4 (86429 ∷ 1200 ∷ 0 ∷ [])
+    ∷ settles (offers (ratio network 4 7 5) 4 86428 86429 1) 4 (86429 ∷ 1200 ∷ 0 ∷ 0 ∷ 0 ∷ [])
     ∷ refuses (offers (ratio network 4 7 5) 4 86428 86428 1) 4 11 0
     -- P3 there: 1.5 × 121,000.6 = 181,500.9, where 121,000 would see 181,500; P4 of the motor: 12 × 121,000.6 × 6,000 = 10 × 2,178,010.8 × 400
-    ∷ settles (with (offers (ratio network 4 7 5) 4 86428 86429 1) 4 atFar 181501) 4 (86429 ∷ 1200 ∷ 0 ∷ [])
+    ∷ settles (with (offers (ratio network 4 7 5) 4 86428 86429 1) 4 atFar 181501) 4 (86429 ∷ 1200 ∷ 0 ∷ 0 ∷ 0 ∷ [])
     ∷ refuses (with (offers (ratio network 4 7 5) 4 86428 86429 1) 4 atFar 181500) 4 12 0
-    ∷ settles (with (offers (ratio network 4 7 5) 4 86428 86429 1) 3 atFar 2178011) 4 (86429 ∷ 1200 ∷ 0 ∷ [])
+    ∷ settles (with (offers (ratio network 4 7 5) 4 86428 86429 1) 3 atFar 2178011) 4 (86429 ∷ 1200 ∷ 0 ∷ 0 ∷ 0 ∷ [])
     ∷ refuses (with (offers (ratio network 4 7 5) 4 86428 86429 1) 3 atFar 2178010) 4 13 3
     -- its cutoff, at a number past 500,000 that FIELD would not let in (settling does not ask): 928,572 × 1.4 = 1,300,000.8, where
     -- 928,571 × 1.4 = 1,299,999.4 is not clear of 1,300,000; 1.2 × 1,300,000.8 = 1,560,000.96
-    ∷ settles (with (offers (ratio network 4 7 5) 4 86429 928572 842143) 4 atNear 1560001) 4 (86429 ∷ 1200 ∷ 928572 ∷ [])
-    ∷ settles (with (offers (ratio network 4 7 5) 4 86429 928572 842143) 4 atNear 1560000) 4 (86429 ∷ 1200 ∷ 0 ∷ [])
-    ∷ settles (with (offers (ratio network 4 7 5) 4 86429 928571 842142) 4 atNear 1560001) 4 (86429 ∷ 1200 ∷ 0 ∷ [])
+    ∷ settles (with (offers (ratio network 4 7 5) 4 86429 928572 842143) 4 atNear 1560001) 4 (86429 ∷ 1200 ∷ 928572 ∷ 0 ∷ 0 ∷ [])
+    ∷ settles (with (offers (ratio network 4 7 5) 4 86429 928572 842143) 4 atNear 1560000) 4 (86429 ∷ 1200 ∷ 0 ∷ 0 ∷ 0 ∷ [])
+    ∷ settles (with (offers (ratio network 4 7 5) 4 86429 928571 842142) 4 atNear 1560001) 4 (86429 ∷ 1200 ∷ 0 ∷ 0 ∷ 0 ∷ [])
     -- row 1 at 7 / 5, keyed 20,000 below, is 28,000 primary: row 2 clears 11 × 28,000 × 6,000 = 10 × 18,480 × 10,000, and not with 18,479; P1 asks less here
-    ∷ settles (offers (with (ratio network 1 7 5) 2 atWork 1) 2 18479 18480 1) 2 (18480 ∷ 900 ∷ 0 ∷ [])
+    ∷ settles (offers (with (ratio network 1 7 5) 2 atWork 1) 2 18479 18480 1) 2 (18480 ∷ 900 ∷ 0 ∷ 0 ∷ 0 ∷ [])
     ∷ refuses (offers (with (ratio network 1 7 5) 2 atWork 1) 2 18479 18479 1) 2 11 0
     ∷ []

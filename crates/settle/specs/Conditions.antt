@@ -1,12 +1,13 @@
--- [01 §3], [02 §1] The conditions, each against its line of the section. They are judged on primary currents, which stand in fifths of a mA
+-- [01 §3], [02 §1, §3] The conditions, each against its line of the section. They are judged on primary currents, which stand in fifths of a mA
 -- on both sides of each line. Source document 000 departs from P2: it names only the fed row of greatest pickup; section 3 asks it of every
--- fed row. D2 is read with [02 §5]. Definitions only.
+-- fed row. D2 is read with [02 §5], and D1 and D2 over times with [02 §3]. Definitions only.
 -- v is a view of the list, i and j are rows counted from 0, r and f are rows by their fields: r the row itself, f one that it
--- feeds; d and e are their devices. I is a primary pickup, C a primary cutoff pickup and t a delay of the row itself; k gives the
--- settings of each row as they are keyed, and s those of the fed row f.
+-- feeds; d and e are their devices. I is a primary pickup, C a primary cutoff pickup, x a delay or a multiplier and t a time of the row
+-- itself; k gives the settings of each row as they are keyed, and s those of the fed row f.
 use mathlib.Core.Bool.{Bool, not, cond, _&&_, _||_}
 use Prim.Native.Nat.{ℕ, _+_, _*_, max}
 use lib.Dec.{leb, eqb}
+use Rattle.curve.specs.Curve.{isCurve, multiple, stalls, timeOf}
 use Rattle.fold.specs.Fold.{sumTo, every}
 use Rattle.layout.specs.declared.CardRow.{CardRow}
 use Rattle.layout.specs.declared.Row.{Row}
@@ -58,7 +59,34 @@ seesOwnZone r I = atLeast (10 * r .far .0) (15 * I .0)
 unfoldable pub backsUp : Row → Row → Primary → Bool
 backsUp r f I = not (eqb (f .backed) 1) || atLeast (10 * f .far .0 * f .volts) (12 * I .0 * r .volts)
 
--- D1: the delay is between floor and ceiling, and at least 100 for a motor
+-- [02 §3] M of row r with the primary pickup I at "the greatest current at its near end" of row f, "referred by voltage", in thousandths:
+-- at its own where f is r itself
+unfoldable pub multipleAt : Row → Row → Primary → ℕ
+multipleAt r f I = multiple (f .greatest .0 * f .volts) (I .0 * r .volts)
+
+-- the time of row r there, in ms, with the setting x: its delay, or what its curve gives with the multiplier x
+abbrev pub timeAt : Row → Row → Primary → ℕ → ℕ
+timeAt r f I x = timeOf (r .law) (multipleAt r f I) x
+
+-- what a card row sets: a curve's multiplier, or a delay
+unfoldable pub settingOf : CardRow → ℕ
+settingOf s = cond (isCurve (s .law)) (s .multiplier) (s .delay)
+
+-- M and the time of a fed row f at its own near end: by the pickup, the law and the setting of its card row s
+abbrev pub fedMultiple : Row → CardRow → ℕ
+fedMultiple f s = multipleAt f f (primaryOf f (s .pickup))
+
+abbrev pub fedTime : Row → CardRow → ℕ
+fedTime f s = timeOf (s .law) (fedMultiple f s) (settingOf s)
+
+-- 14 CURVE: M is needed, and at most 1.000: the fed row's at its own near end; row r's there
+abbrev pub fedStalls : Row → CardRow → Bool
+fedStalls f s = stalls (s .law) (fedMultiple f s)
+
+abbrev pub stallsAt : Row → Row → Primary → Bool
+stallsAt r f I = stalls (r .law) (multipleAt r f I)
+
+-- D1: the time, at the row's own near end, is between floor and ceiling, and at least 100 for a motor
 unfoldable pub withinDelays : Row → ℕ → Bool
 withinDelays r t = atLeast t (r .floor) && (atLeast (r .ceiling) t && (not (eqb (r .kind) 3) || atLeast t 100))
 
@@ -70,9 +98,9 @@ margin device = cond (eqb device 1) 300 (cond (eqb device 2) 500 200)
 unfoldable pub marginBetween : ℕ → ℕ → ℕ
 marginBetween d e = max (margin d) (margin e)
 
--- D2, for a fed row f with settings s: the delay is at least its delay plus the larger of the two rows' steps
-unfoldable pub gradedAbove : Row → Row → CardRow → ℕ → Bool
-gradedAbove r f s t = atLeast t (s .delay + marginBetween (r .device) (f .device))
+-- D2, for a fed row f with settings s: at its near end the time is at least its time there plus the larger of the two rows' steps
+unfoldable pub gradedAbove : Row → Row → CardRow → Primary → ℕ → Bool
+gradedAbove r f s I x = atLeast (timeAt r f I x) (fedTime f s + marginBetween (r .device) (f .device))
 
 -- cutoff, the bound on its pickup C: 1,000 × C ≥ factor × clear
 unfoldable pub staysClear : Row → Primary → Bool

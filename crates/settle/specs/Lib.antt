@@ -4,3 +4,4 @@ pub mod Fed
 pub mod Inequalities
 pub mod Ready
 pub mod Settle
+pub mod Times

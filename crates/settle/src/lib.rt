@@ -1,5 +1,7 @@
-// Section 3 of the scope: one row's least settings, from its fields and what the rows that it feeds ask of it. The fed rows
-// themselves are looked at only where a refusal names one of them.
+// Section 3 of the scope: one row's least settings, in two stages [02 §3]. The pickup comes from its fields and what the rows that it
+// feeds ask of it, in three numbers; its delay or multiplier then from going through those rows (times).
+mod times;
+
 use answers::Cause;
 use answers::Reason;
 use fold::Found;
@@ -13,19 +15,21 @@ use sides::Primary;
 use sides::Secondary;
 use sides::in_primary;
 use sides::least_keyed;
+use times::time_row;
 ghost use mathlib.Core.Path.{_≡_};
 ghost use Prim.Native.Nat.{ℕ, _-_, _≤_, _<_};
 ghost use lib.Dec.{leb};
 ghost use Rattle.grid.specs.Grid.{leastOn};
+ghost use Rattle.layout.specs.Card.{cardRowAt};
 ghost use Rattle.layout.specs.List.{rows};
 ghost use Rattle.layout.specs.Range.{Bounded};
 ghost use Rattle.layout.specs.View.{viewOf};
 ghost use Rattle.sides.specs.Sides.{keyed, settingMost};
-ghost use Rattle.settle.specs.Conditions.{primaryOf, seesOwnZone, backsUp, staysClear, seesNear, margin, marginBetween};
-ghost use Rattle.settle.specs.Fed.{lowerBy, backsUpAll, unbackedBy, pickedBy, delayBy, settledBy, shortfall, asked};
+ghost use Rattle.settle.specs.Conditions.{primaryOf, seesOwnZone, backsUp, staysClear, seesNear};
+ghost use Rattle.settle.specs.Fed.{lowerBy, backsUpAll, unbackedBy, pickedBy, settledBy, shortfall, asked};
 ghost use Rattle.settle.specs.Fed.{PrimaryBounded, FedBounded, CardBounded};
-ghost use Rattle.settle.specs.Ready.{Listed};
-ghost use Rattle.settle.specs.Settle.{unbacked, firstUnbacked, judged, leastDelay, cutoffOf, printed, shown};
+ghost use Rattle.settle.specs.Ready.{Listed, FedReady};
+ghost use Rattle.settle.specs.Settle.{unbacked, firstUnbacked, judged, cutoffOf, printed, shown};
 
 // The cutoff is fitted at a stated pickup or not fitted [01 §3].
 pub enum Cutoff {
@@ -33,10 +37,11 @@ pub enum Cutoff {
     NotFitted,
 }
 
-// A row's outcome.
+// A row's outcome. The setting is its delay, or the multiplier of its curve.
 pub struct Outcome {
     pub pickup: Secondary,
-    pub delay: u64,
+    pub law: u64,
+    pub setting: u64,
     pub cutoff: Cutoff,
 }
 
@@ -51,13 +56,31 @@ pub enum Settled {
     Unset(Reason),
 }
 
-// What the rows that a row feeds ask of it: the sum of their loads, and over them the greatest excess of a pickup over its
-// own load, shortfall of backup and earliest delay. The first three are primary currents, in fifths of a mA, times volts.
+// A row's second stage: its setting; the number of the row whose M is at most 1.000; or neither, where no setting fits.
+pub enum Timed {
+    Setting(u64),
+    Stalled(u64),
+    NoSetting,
+}
+
+// A fed row's time at its own near end, or none where its M is at most 1.000.
+pub enum FedTime {
+    Takes(u64),
+    Slow,
+}
+
+// What one or all of the fed rows ask of a row's setting: it is from so much on; or the number of a row whose M is at most 1.000.
+pub enum Wanted {
+    From(u64),
+    Stuck(u64),
+}
+
+// What the rows that a row feeds ask of its pickup: the sum of their loads, and over them the greatest excess of a pickup over its
+// own load and shortfall of backup. All are primary currents, in fifths of a mA, times volts.
 pub struct Fed {
     pub load: u64,
     pub excess: u64,
     pub shortfall: u64,
-    pub earliest: u64,
 }
 
 // 1.2 times the greatest product of a primary current, in fifths of a mA, and volts that a list in range holds.
@@ -172,13 +195,6 @@ fn pick(list: &[u64], i: usize, r: Row, f: Fed) -> Picked
     }
 }
 
-fn least_delay(r: Row, f: Fed) -> Found
-    ensures { λ x. ⌜ x ≡ leastDelay r (delayBy r f) ⌝ }
-{
-    let motor = if r.kind == 3 { 100 } else { 0 };
-    least_on(r.floor, r.ceiling, 1, greater(f.earliest, motor))
-}
-
 // A cutoff's sensitivity at its pickup.
 fn sees_near(r: Row, x: Primary) -> bool
     requires { ⌜ Bounded r × PrimaryBounded x ⌝ }
@@ -210,18 +226,27 @@ fn cutoff_at(r: Row) -> Cutoff
     }
 }
 
-// The least settings of row i, whose fields are r, or the refusal: RANGE, OWN ZONE or BACKUP before DELAY.
-pub fn settle(list: &[u64], i: usize, r: Row, f: Fed) -> Settled
-    requires { ⌜ Listed (now list) i r × FedBounded f ⌝ }
-    ensures { λ s. ⌜ s ≡ settledBy (viewOf (now (list .entry))) i r f ⌝ }
+// The least settings of row i, whose fields are r, or the refusal: RANGE, OWN ZONE or BACKUP before CURVE, and CURVE before DELAY.
+pub fn settle(list: &[u64], links: &[u64], card: &[u64], i: usize, r: Row, f: Fed) -> Settled
+    requires { ⌜ Listed (now list) i r × FedBounded f × FedReady (now list) (now links) (now card) i ⌝ }
+    ensures { λ s. ⌜ s ≡ settledBy (viewOf (now (list .entry))) (cardRowAt (now (card .entry))) i r f ⌝ }
 {
     match pick(list, i, r, f) {
         Picked::Unfit(why) => Settled::Unset(Reason::Pickup(why)),
-        Picked::Fits(pickup) => match least_delay(r, f) {
-            Found::Nothing => Settled::Unset(Reason::Delay),
-            Found::At(delay) => Settled::Set(Outcome {
+        Picked::Fits(pickup) => match time_row(
+            list,
+            links,
+            card,
+            i,
+            r,
+            in_primary(r.ratio, pickup),
+        ) {
+            Timed::Stalled(place) => Settled::Unset(Reason::Curve(place)),
+            Timed::NoSetting => Settled::Unset(Reason::Delay),
+            Timed::Setting(setting) => Settled::Set(Outcome {
                 pickup,
-                delay,
+                law: r.law,
+                setting,
                 cutoff: cutoff_at(r),
             }),
         },
@@ -243,29 +268,24 @@ pub fn card_row(o: Outcome) -> CardRow
     ensures { λ k. ⌜ k ≡ shown o ⌝ }
 {
     let pickup = o.pickup;
-    let cutoff = o.cutoff;
+    let found = o.cutoff;
+    let cutoff = printed_cutoff(found);
+    if o.law == 0 {
+        return CardRow {
+            pickup,
+            delay: o.setting,
+            cutoff,
+            law: 0,
+            multiplier: 0,
+        };
+    }
     CardRow {
         pickup,
-        delay: o.delay,
-        cutoff: printed_cutoff(cutoff),
+        delay: 0,
+        cutoff,
+        law: o.law,
+        multiplier: o.setting,
     }
-}
-
-// The grading margin that a row's device asks.
-fn margin_of(device: u64) -> u64
-    ensures { λ r. ⌜ r ≡ margin device ⌝ }
-{
-    if device == 1 {
-        return 300;
-    }
-    if device == 2 { 500 } else { 200 }
-}
-
-// The grading margin between two rows by their devices: the larger of the two [02 §5].
-fn margin_between(d: u64, e: u64) -> u64
-    ensures { λ r. ⌜ r ≡ marginBetween d e ⌝ }
-{
-    greater(margin_of(d), margin_of(e))
 }
 
 fn shortfall_of(r: Row) -> u64
@@ -279,20 +299,18 @@ fn shortfall_of(r: Row) -> u64
     }
 }
 
-// What a settled row asks of the row that feeds it, whose device is d.
-pub fn asks(d: u64, f: Row, s: CardRow) -> Fed
+// What a settled row asks of the pickup of the row that feeds it.
+pub fn asks(f: Row, s: CardRow) -> Fed
     requires { ⌜ Bounded f × CardBounded f s ⌝ }
-    ensures { λ a. ⌜ a ≡ asked d f s ⌝ }
+    ensures { λ a. ⌜ a ≡ asked f s ⌝ }
 {
     let load = f.work.0 * f.volts;
     let pickup = in_primary(f.ratio, s.pickup);
     let excess = pickup.0 * f.volts + (REACH - load);
     let shortfall = shortfall_of(f);
-    let earliest = s.delay + margin_between(d, f.device);
     Fed {
         load,
         excess,
         shortfall,
-        earliest,
     }
 }

@@ -13,7 +13,6 @@ use Rattle.sides.specs.declared.Primary.{Primary}
 use Rattle.settle.specs.Conditions.{primaryOf}
 use Rattle.settle.specs.Fed.{CardBounded}
 use Rattle.settle.proofs.PickupLaws.{current-volts, found-fits}
-use Rattle.settle.proofs.MarginLaws.{marginBetween-to}
 use Rattle.settle.proofs.asks.Statement.{statement}
 use Rattle.settle.proofs.asks.Tie as tie
 
@@ -45,19 +44,10 @@ add-excess c =
 shortfall-of-requires : tie.Need-shortfall-of-requires
 shortfall-of-requires c κs = search needs
 
-margin-between-requires : tie.Need-margin-between-requires
-margin-between-requires c κs = search needs
-
-add-earliest : tie.Need-add-earliest
-add-earliest c =
-    let margin = c .before in
-    let start = margin .before .before .before .before .before .before in
-    omega (arith, start .pre .1 .delay-to, margin .margin-between .ensures, marginBetween-to (start .args .d) (start .args .f .device))
-
 returns : tie.Need-returns
 returns c =
-    let asked = c .before .before in
-    rw (asked .before .before .before .in-primary .ensures, asked .shortfall-of .ensures, c .before .margin-between .ensures)
+    let read = c .before .before .before in
+    rw (read .in-primary .ensures, c .shortfall-of .ensures)
 
 pub asks-spec : {M : Type 1} → statement M
 asks-spec =
@@ -69,6 +59,4 @@ asks-spec =
     sub-excess
     add-excess
     shortfall-of-requires
-    margin-between-requires
-    add-earliest
     returns)

@@ -1,10 +1,10 @@
--- `settle::margin_between` meets its contract: it is the greater of the two devices' margins.
+-- `settle::times::margin_between` meets its contract: it is the greater of the two devices' margins.
 use borrow.Author.Needs.{needs}
 use mathlib.Core.Path.{_∙_, ap₂}
 use Prim.Native.Nat.{max}
 use Rattle.settle.specs.Conditions.{marginBetween}
-use Rattle.settle.proofs.margin_between.Statement.{statement}
-use Rattle.settle.proofs.margin_between.Tie as tie
+use Rattle.settle.proofs.times.margin_between.Statement.{statement}
+use Rattle.settle.proofs.times.margin_between.Tie as tie
 
 margin-of-requires : tie.Need-margin-of-requires
 margin-of-requires c κs = search needs

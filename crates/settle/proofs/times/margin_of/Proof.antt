@@ -1,8 +1,8 @@
--- `settle::margin_of` meets its contract: each device has its own return, by the same tests as in the definition.
+-- `settle::times::margin_of` meets its contract: each device has its own return, by the same tests as in the definition.
 use borrow.Author.Tests.{eq-eqb, ne-eqb}
 use Rattle.settle.specs.Conditions.{margin}
-use Rattle.settle.proofs.margin_of.Statement.{statement}
-use Rattle.settle.proofs.margin_of.Tie as tie
+use Rattle.settle.proofs.times.margin_of.Statement.{statement}
+use Rattle.settle.proofs.times.margin_of.Tie as tie
 
 returns : tie.Need-returns
 unfolding margin

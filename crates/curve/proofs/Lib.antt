@@ -1,0 +1,4 @@
+pub mod Cases
+pub mod CurveLaws
+pub mod CurveTheorems
+pub mod FractionLaws

@@ -1,0 +1,4 @@
+pub mod FedLaws
+pub mod LinkLaws
+pub mod OverLaws
+pub mod UnlinkLaws

@@ -1,0 +1,131 @@
+-- The pass from the last row down: with row k put first among the rows that its feeder feeds, every row's first fed row is the first from
+-- k on, and what follows a row from k on is the next that is fed as it is. A row that the source feeds changes nothing.
+use mathlib.Core.Path.{_≡_, sym, _∙_}
+use mathlib.Core.Bool.{true, false}
+use mathlib.Core.Logic.{_≢_, ⊎-elim}
+use mathlib.Core.List.{List}
+use Prim.Native.Nat.{ℕ, _+_, _-_, _*_, _≤_, _<_}
+use native.Mathlib.Nat.{eq-or-lt-of-le}
+use native.Mathlib.Omega.{arith}
+use lib.Dec.{eqb}
+use lib.ListN.{length, set, length-set}
+use lib.Seq.{getD-set-same, getD-set-other}
+use borrow.Author.Tests.{eqb-true, eqb-false, eq-eqb, ne-eqb}
+use Rattle.fold.proofs.BoolLaws.{passes-or-fails}
+use Rattle.layout.specs.List.{rows}
+use Rattle.feeding.specs.Fed.{feederOf, feeds, fedFrom, linkCount, linkAt, atFirst, atNext, Linked}
+use Rattle.feeding.specs.Linking.{Unlinked, Linking, RowReady}
+use Rattle.feeding.proofs.FedLaws.{fedFrom-here, fedFrom-past, fedFrom-end}
+
+-- the loop: before the first turn, at a turn, and after the last
+pub linking-none : (l links : List ℕ) → rows l * linkCount ≤ length links → Unlinked (rows l) links → Linking l links (rows l)
+linking-none l links room u =
+    record {
+      within = omega arith;
+      links-room = room;
+      firsts = λ i b. u .none i b ∙ sym (fedFrom-end l i (rows l) (omega arith));
+      nexts = λ i j a b. absurd (omega arith);
+    }
+
+pub linking-ready :
+    (l links : List ℕ) (k : ℕ) → ((j : ℕ) → j < rows l → feederOf l j ≤ rows l) → Linking l links k → 0 < k →
+    RowReady l links (k - 1)
+linking-ready l links k feeders above h =
+    let e : k - 1 + 1 ≡ k = omega arith in
+    let is-row : k - 1 < rows l = omega (arith, above .within) in
+    record { is-row = is-row; feeder = feeders (k - 1) is-row; above = rw e above }
+
+pub linking-all : (l links : List ℕ) (k : ℕ) → Linking l links k → k ≡ 0 → Linked l links
+linking-all l links k h e =
+    let all : Linking l links 0 = rw e at h in
+    record { room = all .links-room; firsts = all .firsts; nexts = λ i j b. all .nexts i j (omega arith) b }
+
+module _ (l links : List ℕ) (k : ℕ) (h : RowReady l links k) where
+  -- what another row than its feeder feeds is found behind row k
+  past : (i : ℕ) → feederOf l k ≢ i + 1 → fedFrom l i (k + 1) ≡ fedFrom l i k
+  past i n = sym (fedFrom-past l i k (h .is-row) (ne-eqb (feederOf l k) (i + 1) n))
+
+  pub linking-source : feederOf l k ≡ 0 → Linking l links k
+  linking-source e =
+      record {
+        within = omega (arith, h .is-row);
+        links-room = h .above .links-room;
+        firsts = λ i b. h .above .firsts i b ∙ past i (λ q. omega arith);
+        nexts =
+            λ i j a b p.
+            ⊎-elim
+            (λ (s : k ≡ j). absurd (let q : feederOf l k ≡ i + 1 = rw s (eqb-true (feederOf l j) (i + 1) p) in omega arith))
+            (λ (s : k < j). h .above .nexts i j (omega arith) b p)
+            (eq-or-lt-of-le a);
+      }
+
+  module _ (at : ℕ) (e : feederOf l k ≡ at + 1) where
+    abbrev behind : List ℕ
+    behind = set links (k * linkCount + atNext) (linkAt links at atFirst)
+
+    abbrev before : List ℕ
+    before = set behind (at * linkCount + atFirst) k
+
+    kept-length : length before ≡ length links
+    kept-length =
+        length-set behind (at * linkCount + atFirst) k ∙ length-set links (k * linkCount + atNext) (linkAt links at atFirst)
+
+    firsts-kept : (i : ℕ) → i ≢ at → linkAt before i atFirst ≡ linkAt links i atFirst
+    firsts-kept i n =
+        getD-set-other behind (at * linkCount + atFirst) (i * linkCount + atFirst) k 0 (λ q. n (omega arith)) ∙
+        getD-set-other links (k * linkCount + atNext) (i * linkCount + atFirst) (linkAt links at atFirst) 0 (λ q. omega arith)
+
+    nexts-kept : (j : ℕ) → linkAt before j atNext ≡ linkAt behind j atNext
+    nexts-kept j = getD-set-other behind (at * linkCount + atFirst) (j * linkCount + atNext) k 0 (λ q. omega arith)
+
+    own-first : linkAt before at atFirst ≡ fedFrom l at k
+    own-first =
+        getD-set-same behind (at * linkCount + atFirst) k 0
+        (omega (arith, h .feeder, h .above .links-room, length-set links (k * linkCount + atNext) (linkAt links at atFirst))) ∙
+        sym (fedFrom-here l at k (h .is-row) (eq-eqb (feederOf l k) (at + 1) e))
+
+    own-next : linkAt behind k atNext ≡ fedFrom l at (k + 1)
+    own-next =
+        getD-set-same links (k * linkCount + atNext) (linkAt links at atFirst) 0 (omega (arith, h .is-row, h .above .links-room)) ∙
+        h .above .firsts at (omega (arith, h .feeder))
+
+    pub linking-fed : Linking l before k
+    linking-fed =
+        record {
+          within = omega (arith, h .is-row);
+          links-room = omega (arith, kept-length, h .above .links-room);
+          firsts =
+              λ i b.
+              ⊎-elim
+              (λ (s : eqb i at ≡ true). rw (eqb-true i at s) own-first)
+              (λ (s : eqb i at ≡ false).
+              let n = eqb-false i at s in
+              firsts-kept i n ∙ h .above .firsts i b ∙ past i (λ q. n (omega arith)))
+              (passes-or-fails (eqb i at));
+          nexts =
+              λ i j a b p.
+              nexts-kept j ∙
+              ⊎-elim
+              (λ (s : k ≡ j).
+              let f : feederOf l k ≡ i + 1 = rw s (eqb-true (feederOf l j) (i + 1) p) in
+              let q : i ≡ at = omega arith in
+              rw (← s, q) own-next)
+              (λ (s : k < j).
+              getD-set-other links (k * linkCount + atNext) (j * linkCount + atNext) (linkAt links at atFirst) 0 (λ q. omega arith) ∙
+              h .above .nexts i j (omega arith) b p)
+              (eq-or-lt-of-le a);
+        }
+
+  -- the same by what the code reads and leaves
+  pub linked-row :
+      (feeder next : ℕ) (behind before : List ℕ) → feeder ≡ feederOf l k → feeder ≢ 0 → next ≡ linkAt links (feeder - 1) atFirst →
+      behind ≡ set links (k * linkCount + atNext) next → before ≡ set behind ((feeder - 1) * linkCount + atFirst) k → Linking l before k
+  linked-row feeder next behind before e some n q p = rw (p, q, n) (linking-fed (feeder - 1) (omega (arith, some)))
+
+-- what is read in the links of a list
+module _ (l links : List ℕ) (h : Linked l links) where
+  pub linked-first : (i x : ℕ) → i < rows l → x ≡ linkAt links i atFirst → x ≡ fedFrom l i 0
+  linked-first i x b e = e ∙ h .firsts i b
+
+  pub linked-next : (j x : ℕ) → j < rows l → x ≡ linkAt links j atNext → (i : ℕ) → feeds l i j ≡ true → x ≡ fedFrom l i (j + 1)
+  linked-next j x b e i p = e ∙ h .nexts i j b p
