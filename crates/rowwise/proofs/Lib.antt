@@ -1,4 +1,5 @@
 pub mod EndLaws
+pub mod LinkLaws
 pub mod StartLaws
 pub mod StepLaws
 pub mod SumsLaws

@@ -39,7 +39,6 @@ module _ (l c s : List ℕ) (a : Unworked l c s) (done matters : ℕ → Bool) (
       (a .sums-clear (i * askCount + 0) ∙ sym (sumTo-zero _ (rows l) (λ j _. uncounted j _ _)))
       (a .sums-clear (i * askCount + 1) ∙ max-none (rows l) _ (λ j. uncounted j _ _))
       (a .sums-clear (i * askCount + 2) ∙ max-none (rows l) _ (λ j. uncounted j _ _))
-      (a .sums-clear (i * askCount + 3) ∙ max-none (rows l) _ (λ j. uncounted j _ _))
 
   pub work-start : Working l done matters c s
   work-start =

@@ -18,14 +18,14 @@ use Rattle.layout.specs.List.{rows, rowAt}
 use Rattle.layout.specs.View.{viewOf}
 use Rattle.layout.proofs.CardLaws.{putCardRow-length, putCardRow-own, putCardRow-other}
 use Rattle.rows.proofs.InRangeLaws.{feeder-above, feeder-of-last}
+use Rattle.feeding.specs.Fed.{Linked}
 use Rattle.settle.specs.declared.Fed.{Fed}
 use Rattle.settle.specs.declared.Outcome.{Outcome}
 use Rattle.settle.specs.declared.Settled.the-variants.{Set}
 use Rattle.settle.specs.Conditions.{primaryOf, fed, loadOf}
-use Rattle.settle.specs.Fed.{reach, excess, shortfall, earliest, asked, settledBy, FedBounded, CardBounded}
+use Rattle.settle.specs.Fed.{reach, excess, shortfall, asked, settledBy, FedBounded, CardBounded}
 use Rattle.settle.specs.Settle.{shown, settled}
 use Rattle.settle.proofs.FedLaws.{settled-by}
-use Rattle.settle.proofs.MarginLaws.{marginBetween-to}
 use Rattle.settle.proofs.OutcomeLaws.{set-bounded}
 use Rattle.settle.proofs.PickupLaws.{load-bounded, found-fits}
 use Rattle.rowwise.specs.Ready.{HasFeeder, WorkReady}
@@ -56,9 +56,6 @@ module _ (l : List ℕ) (done matters : ℕ → Bool) (c s : List ℕ) (w : Work
       mul-le-mul (found-fits (rowAt l j) q (cardRowAt c j .pickup) (w .settings-to j b g .pickup-to)) (q .volts-to) in
       omega arith
 
-  earliest-to : (d j : ℕ) → j < rows l → done j ≡ true → earliest d (rowAt l j) (cardRowAt c j) ≤ 100500
-  earliest-to d j b g = omega (arith, w .settings-to j b g .delay-to, marginBetween-to d (rowAt l j .device))
-
   gathered-bounded : (k : ℕ) → FedBounded (gatheredBy done (viewOf l) (cardRowAt c) k)
   gathered-bounded k =
       record {
@@ -72,9 +69,6 @@ module _ (l : List ℕ) (done matters : ℕ → Bool) (c s : List ℕ) (w : Work
             (λ j b. counted-to (done j && fed (viewOf l) k j) _ _ (λ t. excess-to j b (and-left (done j) (fed (viewOf l) k j) t)));
         shortfall-to =
             maxTo-bound _ reach (rows l) (λ j b. counted-to (done j && fed (viewOf l) k j) _ _ (λ _. shortfall-to (rowAt l j)));
-        earliest-to =
-            maxTo-bound _ 100500 (rows l)
-            (λ j b. counted-to (done j && fed (viewOf l) k j) _ _ (λ t. earliest-to (rowAt l k .device) j b (and-left (done j) (fed (viewOf l) k j) t)));
       }
 
   pub sums-bounded : (i : ℕ) → i < rows l → matters i ≡ true → FedBounded (fedAt s i)
@@ -90,41 +84,42 @@ module _ (l : List ℕ) (done matters : ℕ → Bool) (c s : List ℕ) (w : Work
 
   -- row i, whose feeder matters
   module _ (i : ℕ) (h : i < rows l) (f : 1 ≤ rowAt l i .feeder → matters (rowAt l i .feeder - 1) ≡ true) where
-    pub has-feeder : HasFeeder l (rowAt l i) s
+    pub has-feeder : HasFeeder (rowAt l i) s
     has-feeder =
         record {
-          in-list = λ q. let b = feeder-within i h q in omega arith;
           has-place = λ q. omega (arith, w .sums-room, feeder-within i h q);
           load-fits = λ q. sums-bounded (rowAt l i .feeder - 1) (feeder-within i h q) (f q) .load-to;
         }
 
-    pub work-ready : matters i ≡ true → WorkReady l i c s
-    work-ready m =
+    pub work-ready :
+        (links : List ℕ) → Linked l links → matters i ≡ true → ((j : ℕ) → j < rows l → fed (viewOf l) i j ≡ true → done j ≡ true) →
+        WorkReady l links i c s
+    work-ready links linked m all =
         record {
           is-row = h;
           in-card = omega (arith, w .card-room);
           in-sums = omega (arith, w .sums-room);
           all-bounded = λ j b. w .in-range j b .bounded;
           fed-bounded = sums-bounded i h m;
+          fed-ready = record { linked = linked; card-room = w .card-room; settings-to = λ j b g. w .settings-to j b (all j b g) };
           feeder = has-feeder;
         }
 
   -- where all rows that row i feeds are done, the sums settle it as section 3 does
   pub work-settles :
       (i : ℕ) → i < rows l → matters i ≡ true → ((j : ℕ) → j < rows l → fed (viewOf l) i j ≡ true → done j ≡ true) →
-      settledAt l i s ≡ settled (viewOf l) (cardRowAt c) i
+      settledAt l i c s ≡ settled (viewOf l) (cardRowAt c) i
   work-settles i h m all =
-      ap (settledBy (viewOf l) i (rowAt l i))
+      ap (settledBy (viewOf l) (cardRowAt c) i (rowAt l i))
       (w .summed i h m ∙
       same-fed
       (sumTo-same _ _ (rows l) (λ j b. counted-all (done j) (fed (viewOf l) i j) (loadOf (viewOf l) j) (all j b)))
       (maxTo-same _ _ (rows l) (λ j b. counted-all (done j) (fed (viewOf l) i j) (excess (rowAt l j) (cardRowAt c j)) (all j b)))
-      (maxTo-same _ _ (rows l) (λ j b. counted-all (done j) (fed (viewOf l) i j) (shortfall (rowAt l j)) (all j b)))
-      (maxTo-same _ _ (rows l) (λ j b. counted-all (done j) (fed (viewOf l) i j) (earliest (rowAt l i .device) (rowAt l j) (cardRowAt c j)) (all j b)))) ∙
+      (maxTo-same _ _ (rows l) (λ j b. counted-all (done j) (fed (viewOf l) i j) (shortfall (rowAt l j)) (all j b)))) ∙
       settled-by (viewOf l) (λ j b. w .in-range j b .bounded) (cardRowAt c) i h
 
-  pub settled-to : (i : ℕ) → i < rows l → (o : Outcome) → Set o ≡ settledAt l i s → CardBounded (rowAt l i) (shown o)
-  settled-to i h o set = set-bounded _ _ _ _ o (w .in-range i h .bounded) set
+  pub settled-to : (i : ℕ) → i < rows l → (o : Outcome) → Set o ≡ settledAt l i c s → CardBounded (rowAt l i) (shown o)
+  settled-to i h o set = set-bounded _ _ _ _ _ o (w .in-range i h .bounded) set
 
   -- row i is written into the card as k, and done from then on; what mattered no longer may
   module _ (i : ℕ) (h : i < rows l) (new : done i ≡ false) (done′ : ℕ → Bool) (next : (j : ℕ) → done′ j ≡ (done j || eqb j i))
@@ -132,9 +127,9 @@ module _ (l : List ℕ) (done matters : ℕ → Bool) (c s : List ℕ) (w : Work
     r : Row
     r = rowAt l i
 
-    -- what row i asks of row x
-    asks : ℕ → Fed
-    asks x = asked (rowAt l x .device) r k
+    -- what row i asks of the row that feeds it
+    asks : Fed
+    asks = asked r k
 
     c′ : List ℕ
     c′ = putCardRow c i k
@@ -157,34 +152,29 @@ module _ (l : List ℕ) (done matters : ℕ → Bool) (c s : List ℕ) (w : Work
     gather-next :
         (x : ℕ) → after x
         ≡ record {
-          load = before x .load + cond (fed (viewOf l) x i) (asks x .load) 0;
-          excess = max (before x .excess) (cond (fed (viewOf l) x i) (asks x .excess) 0);
-          shortfall = max (before x .shortfall) (cond (fed (viewOf l) x i) (asks x .shortfall) 0);
-          earliest = max (before x .earliest) (cond (fed (viewOf l) x i) (asks x .earliest) 0);
+          load = before x .load + cond (fed (viewOf l) x i) (asks .load) 0;
+          excess = max (before x .excess) (cond (fed (viewOf l) x i) (asks .excess) 0);
+          shortfall = max (before x .shortfall) (cond (fed (viewOf l) x i) (asks .shortfall) 0);
         }
     unfolding r asks before after
     gather-next x =
         let on = fed (viewOf l) x in
-        let d = rowAt l x .device in
         same-fed
         (sum-next (rows l) i h done done′ new next on (loadOf (viewOf l)) (loadOf (viewOf l)) (λ j n. refl))
         (max-next (rows l) i h done done′ new next on (λ j. excess (rowAt l j) (cardRowAt c j)) (λ j. excess (rowAt l j) (cardRowAt c′ j))
         (λ j n. ap (excess (rowAt l j)) (other j n)) ∙
         ap (λ (y : CardRow). max (before x .excess) (cond (on i) (excess (rowAt l i) y) 0)) own)
         (max-next (rows l) i h done done′ new next on (λ j. shortfall (rowAt l j)) (λ j. shortfall (rowAt l j)) (λ j n. refl))
-        (max-next (rows l) i h done done′ new next on (λ j. earliest d (rowAt l j) (cardRowAt c j)) (λ j. earliest d (rowAt l j) (cardRowAt c′ j))
-        (λ j n. ap (earliest d (rowAt l j)) (other j n)) ∙
-        ap (λ (y : CardRow). max (before x .earliest) (cond (on i) (earliest d (rowAt l i) y) 0)) own)
 
-    gather-fed : (x : ℕ) → fed (viewOf l) x i ≡ true → joined (before x) (asks x) ≡ after x
+    gather-fed : (x : ℕ) → fed (viewOf l) x i ≡ true → joined (before x) asks ≡ after x
     gather-fed x g = sym (gather-next x ∙ rw g)
 
     gather-unfed : (x : ℕ) → fed (viewOf l) x i ≡ false → before x ≡ after x
-    gather-unfed x g = sym (gather-next x ∙ rw g (same-fed (add-zero _) (max-zero _) (max-zero _) (max-zero _)))
+    gather-unfed x g = sym (gather-next x ∙ rw g (same-fed (add-zero _) (max-zero _) (max-zero _)))
 
     -- the feeder's numbers joined with what row i asks
     for-feeder : Fed
-    for-feeder = joined (fedAt s (r .feeder - 1)) (asks (r .feeder - 1))
+    for-feeder = joined (fedAt s (r .feeder - 1)) asks
 
     module _ (x : ℕ) (b : x < rows l) (m : matters x ≡ true) where
       is-before : fedAt s x ≡ before x
@@ -196,29 +186,29 @@ module _ (l : List ℕ) (done matters : ℕ → Bool) (c s : List ℕ) (w : Work
       at-feeder n0 g =
           let e : r .feeder - 1 ≡ x = omega (arith, eqb-true (r .feeder) (x + 1) g) in
           rw e
-          (putFed-own s x _ (omega (arith, w .sums-room)) ∙ ap (λ (f : Fed). joined f (asks x)) is-before ∙ gather-fed x g)
+          (putFed-own s x _ (omega (arith, w .sums-room)) ∙ ap (λ (f : Fed). joined f asks) is-before ∙ gather-fed x g)
 
       elsewhere : (r .feeder ≡ 0 → ⊥) → fed (viewOf l) x i ≡ false → fedAt (putFed s (r .feeder - 1) for-feeder) x ≡ after x
       unfolding r
       elsewhere n0 g =
           putFed-other s (r .feeder - 1) _ x (λ e. eqb-false (r .feeder) (x + 1) g (omega arith)) ∙ is-before ∙ gather-unfed x g
 
-      summed-next : fedAt (pushed l r k s) x ≡ after x
+      summed-next : fedAt (pushed r k s) x ≡ after x
       unfolding r asks for-feeder
       summed-next =
           ⊎-elim
           (λ (z : eqb (r .feeder) 0 ≡ true).
           let f0 = eqb-true (r .feeder) 0 z in
-          ap (λ (s : List ℕ). fedAt s x) (sym (pushed-source l r k s f0)) ∙ is-before ∙
+          ap (λ (s : List ℕ). fedAt s x) (sym (pushed-source r k s f0)) ∙ is-before ∙
           gather-unfed x (ne-eqb (r .feeder) (x + 1) (λ e. omega arith)))
           (λ (z : eqb (r .feeder) 0 ≡ false).
           let n0 = eqb-false (r .feeder) 0 z in
           ap (λ (s : List ℕ). fedAt s x)
-          (sym (pushed-feeder l r k s (fedAt s (r .feeder - 1)) (asks (r .feeder - 1)) for-feeder n0 refl refl refl)) ∙
+          (sym (pushed-feeder r k s (fedAt s (r .feeder - 1)) asks for-feeder n0 refl refl refl)) ∙
           ⊎-elim (at-feeder n0) (elsewhere n0) (passes-or-fails (eqb (r .feeder) (x + 1))))
           (passes-or-fails (eqb (r .feeder) 0))
 
-    pub work-next : Working l done′ matters′ (putCardRow c i k) (pushed l (rowAt l i) k s)
+    pub work-next : Working l done′ matters′ (putCardRow c i k) (pushed (rowAt l i) k s)
     unfolding c′ r after
     work-next =
         record {
@@ -226,7 +216,7 @@ module _ (l : List ℕ) (done matters : ℕ → Bool) (c s : List ℕ) (w : Work
           in-range = w .in-range;
           feeds = w .feeds;
           card-room = rw (putCardRow-length c i k) (w .card-room);
-          sums-room = rw (pushed-length l (rowAt l i) k s) (w .sums-room);
+          sums-room = rw (pushed-length (rowAt l i) k s) (w .sums-room);
           settings-to =
               λ j b g.
               ⊎-elim

@@ -6,33 +6,34 @@ use lib.ListN.{length}
 use Rattle.answers.specs.declared.Tested.{Tested}
 use Rattle.layout.specs.declared.CardRow.{CardRow}
 use Rattle.layout.specs.declared.Row.{Row}
-use Rattle.layout.specs.Counts.{fieldCount, columnCount}
+use Rattle.layout.specs.Counts.{columnCount}
 use Rattle.layout.specs.List.{rows, rowAt}
 use Rattle.layout.specs.Range.{Bounded, AllBounded}
 use Rattle.layout.specs.View.{viewOf}
 use Rattle.settle.specs.Fed.{FedBounded, CardBounded}
+use Rattle.settle.specs.Ready.{FedReady}
 use Rattle.rowwise.specs.Sums.{askCount, fedAt, Step}
 
--- a row's feeder has its place in the list and in the sums, and a load more does not overflow there
-pub record HasFeeder (l : List ℕ) (r : Row) (s : List ℕ) : Type 0 where
-  pub in-list : 1 ≤ r .feeder → (r .feeder - 1) * fieldCount + fieldCount ≤ length l
+-- a row's feeder has its place in the sums, and a load more does not overflow there
+pub record HasFeeder (r : Row) (s : List ℕ) : Type 0 where
   pub has-place : 1 ≤ r .feeder → (r .feeder - 1) * askCount + askCount ≤ length s
   pub load-fits : 1 ≤ r .feeder → fedAt s (r .feeder - 1) .load ≤ 64000000000000000
 
 -- what a row with these settings asks can be added for its feeder
-pub record PushReady (l : List ℕ) (r : Row) (k : CardRow) (s : List ℕ) : Type 0 where
+pub record PushReady (r : Row) (k : CardRow) (s : List ℕ) : Type 0 where
   pub bounded : Bounded r
   pub settings : CardBounded r k
-  pub feeder : HasFeeder l r s
+  pub feeder : HasFeeder r s
 
 -- row i can be worked out
-pub record WorkReady (l : List ℕ) (i : ℕ) (c s : List ℕ) : Type 0 where
+pub record WorkReady (l links : List ℕ) (i : ℕ) (c s : List ℕ) : Type 0 where
   pub is-row : i < rows l
   pub in-card : i * columnCount + columnCount ≤ length c
   pub in-sums : i * askCount + askCount ≤ length s
   pub all-bounded : AllBounded (viewOf l)
   pub fed-bounded : FedBounded (fedAt s i)
-  pub feeder : HasFeeder l (rowAt l i) s
+  pub fed-ready : FedReady l links c i
+  pub feeder : HasFeeder (rowAt l i) s
 
 -- the answer, the card and the sums are the step's
 pub record Stepped (z : Step) (t : Tested) (c s : List ℕ) : Type 0 where

@@ -15,17 +15,16 @@ use Rattle.rows.specs.InRange.{InRange, Feeds}
 use Rattle.rows.specs.Tests.{rowsTest}
 use Rattle.settle.specs.declared.Fed.{Fed}
 use Rattle.settle.specs.Conditions.{fed, loadOf}
-use Rattle.settle.specs.Fed.{excess, shortfall, earliest, CardBounded}
+use Rattle.settle.specs.Fed.{excess, shortfall, CardBounded}
 use Rattle.rowwise.specs.Sums.{askCount, fedAt}
 
--- what the rows that row i feeds ask of it, as far as they are done
+-- what the rows that row i feeds ask of its pickup, as far as they are done
 abbrev pub gatheredBy : (ℕ → Bool) → View → Settings → ℕ → Fed
 gatheredBy done v k i =
     record {
       load = sumTo (v .count) (λ j. cond (done j && fed v i j) (loadOf v j) 0);
       excess = maxTo (v .count) (λ j. cond (done j && fed v i j) (excess (v .row j) (k j)) 0);
       shortfall = maxTo (v .count) (λ j. cond (done j && fed v i j) (shortfall (v .row j)) 0);
-      earliest = maxTo (v .count) (λ j. cond (done j && fed v i j) (earliest (v .row i .device) (v .row j) (k j)) 0);
     }
 
 -- every row matters

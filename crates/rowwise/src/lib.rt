@@ -1,14 +1,12 @@
-// One row worked out on a lent card. What a row's fed rows ask of it is kept in `sums`, four numbers a row, and each
-// row that is worked out adds its own for the row that feeds it: so no row looks at its fed rows again.
+// One row worked out on a lent card. What a row's fed rows ask of its pickup is kept in `sums`, three numbers a row, and each row that
+// is worked out adds its own for the row that feeds it. For its time the row goes through its fed rows once, by `links`.
 use answers::Answer;
 use answers::Tested;
 use blocks::put;
 use grid::greater;
-use layout::AT_DEVICE;
 use layout::CardRow;
 use layout::ROWS;
 use layout::Row;
-use layout::field_at;
 use layout::put_card_row;
 use layout::row_at;
 use settle::Fed;
@@ -23,7 +21,7 @@ ghost use Rattle.rowwise.specs.Ready.{PushReady, WorkReady, Stepped};
 ghost use Rattle.rowwise.specs.Sums.{askCount, fedAt, putFed, joined, pushed, step};
 
 // What is asked of a row is so many numbers; room for those of the longest list.
-const ASKS: usize = 4;
+const ASKS: usize = 3;
 
 pub const SUMS: usize = ROWS * ASKS;
 
@@ -36,7 +34,6 @@ fn fed_at(sums: &[u64], k: usize) -> Fed
         load: sums[at + 0],
         excess: sums[at + 1],
         shortfall: sums[at + 2],
-        earliest: sums[at + 3],
     }
 }
 
@@ -44,7 +41,7 @@ fn put_fed(sums: &mut [u64], k: usize, f: Fed)
     requires { ⌜ k * askCount + askCount ≤ length (now sums) ⌝ }
     ensures { λ _. ⌜ now (sums .exit) ≡ putFed (now (sums .entry)) k f ⌝ }
 {
-    let asked = [f.load, f.excess, f.shortfall, f.earliest];
+    let asked = [f.load, f.excess, f.shortfall];
     put(sums, k * ASKS, &asked);
 }
 
@@ -56,36 +53,34 @@ fn join(a: Fed, b: Fed) -> Fed
         load: a.load + b.load,
         excess: greater(a.excess, b.excess),
         shortfall: greater(a.shortfall, b.shortfall),
-        earliest: greater(a.earliest, b.earliest),
     }
 }
 
-// Adds what a row with these settings asks for the row that feeds it. That row's device is read at its place in the list.
-pub fn push(list: &[u64], r: Row, k: CardRow, sums: &mut [u64])
-    requires { ⌜ PushReady (now list) r k (now sums) ⌝ }
-    ensures { λ _. ⌜ now (sums .exit) ≡ pushed (now (list .entry)) r k (now (sums .entry)) ⌝ }
+// Adds what a row with these settings asks for the row that feeds it.
+pub fn push(r: Row, k: CardRow, sums: &mut [u64])
+    requires { ⌜ PushReady r k (now sums) ⌝ }
+    ensures { λ _. ⌜ now (sums .exit) ≡ pushed r k (now (sums .entry)) ⌝ }
 {
     if r.feeder == 0 {
         return;
     }
     let at = (r.feeder - 1) as usize;
-    let asked = asks(field_at(list, at, AT_DEVICE), r, k);
-    let f = join(fed_at(sums, at), asked);
+    let f = join(fed_at(sums, at), asks(r, k));
     put_fed(sums, at, f);
 }
 
 // Works out one row: its settings go to the card, what it asks to the sums. A refusal changes neither.
-pub fn work_row(list: &[u64], i: usize, card: &mut [u64], sums: &mut [u64]) -> Tested
-    requires { ⌜ WorkReady (now list) i (now card) (now sums) ⌝ }
+pub fn work_row(list: &[u64], links: &[u64], i: usize, card: &mut [u64], sums: &mut [u64]) -> Tested
+    requires { ⌜ WorkReady (now list) (now links) i (now card) (now sums) ⌝ }
     ensures { λ t. ⌜ Stepped (step (now (list .entry)) i (now (card .entry)) (now (sums .entry))) t (now (card .exit)) (now (sums .exit)) ⌝ }
 {
     let r = row_at(list, i);
-    match settle(list, i, r, fed_at(sums, i)) {
+    match settle(list, links, card, i, r, fed_at(sums, i)) {
         Settled::Unset(why) => Tested::Refused(Answer::Unsettled((i as u64) + 1, why)),
         Settled::Set(o) => {
             let k = card_row(o);
             put_card_row(card, i, k);
-            push(list, r, k, sums);
+            push(r, k, sums);
             Tested::Passed
         }
     }

@@ -12,12 +12,9 @@ greater-requires c κs = search needs
 greater-requires-2 : tie.Need-greater-requires-2
 greater-requires-2 c κs = search needs
 
-greater-requires-3 : tie.Need-greater-requires-3
-greater-requires-3 c κs = search needs
-
 returns : tie.Need-returns
-returns c = rw (c .before .before .greater .ensures, c .before .greater2 .ensures, c .greater3 .ensures)
+returns c = rw (c .before .greater .ensures, c .greater2 .ensures)
 
 pub join-spec : {M : Type 1} → statement M
 join-spec =
-    tie.close (tie.spec add-t3 greater-requires greater-requires-2 greater-requires-3 returns)
+    tie.close (tie.spec add-t3 greater-requires greater-requires-2 returns)

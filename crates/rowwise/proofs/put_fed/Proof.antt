@@ -1,4 +1,4 @@
--- `rowwise::put_fed` meets its contract: the four numbers, copied as one block, are those that `putFed` puts in.
+-- `rowwise::put_fed` meets its contract: the three numbers, copied as one block, are those that `putFed` puts in.
 use borrow.Author.Needs.{needs}
 use mathlib.Core.Path.{_∙_}
 use Rattle.blocks.proofs.BlockLaws.{pasted-sets}
