@@ -1,5 +1,5 @@
--- The numbers of section 4's table, with request §2's in the place of 6, which none has, and those of requests §3 and §11; a row that can't be settled is refused, and
--- not with EDIT, whatever the reason.
+-- The numbers of section 4's table, with request §2's in the place of 6, which none has, and those of requests §3 and §11; a row that can't be
+-- settled is refused, and not with EDIT, whatever the reason.
 use mathlib.Core.Path.{_≡_, refl, ap}
 use mathlib.Core.Bool.{false}
 use mathlib.Core.List.{[], _∷_, map}
@@ -58,9 +58,14 @@ six-retired Slope = refl
 pub table :
     (place field fed stalled : ℕ) →
     map givenBy
-    (Done ∷ Text place ∷ Count ∷ Room ∷ Field place field ∷ Tree place ∷ Unsettled place (Pickup Range) ∷ Unsettled place (Pickup OwnZone) ∷
-    Unsettled place (Pickup (Backup fed)) ∷ Unsettled place (Curve stalled) ∷ Unsettled place Delay ∷ Study place ∷ Card place ∷ Edit ∷ Input place ∷ Slope ∷ []) ≡
-    (0 ∷ 0 ∷ 0 ∷ []) ∷ (1 ∷ place ∷ 0 ∷ []) ∷ (2 ∷ 0 ∷ 0 ∷ []) ∷ (3 ∷ 0 ∷ 0 ∷ []) ∷ (4 ∷ place ∷ field ∷ []) ∷ (5 ∷ place ∷ 0 ∷ []) ∷
-    (11 ∷ place ∷ 0 ∷ []) ∷ (12 ∷ place ∷ 0 ∷ []) ∷ (13 ∷ place ∷ fed ∷ []) ∷ (14 ∷ stalled ∷ 0 ∷ []) ∷ (7 ∷ place ∷ 0 ∷ []) ∷
-    (8 ∷ place ∷ 0 ∷ []) ∷ (9 ∷ place ∷ 0 ∷ []) ∷ (10 ∷ 0 ∷ 0 ∷ []) ∷ (16 ∷ place ∷ 0 ∷ []) ∷ (17 ∷ 0 ∷ 0 ∷ []) ∷ []
+    (Done ∷ Text place ∷ Count ∷ Room ∷ Field place field ∷ Tree place ∷
+    Unsettled place (Pickup Range) ∷ Unsettled place (Pickup OwnZone) ∷
+    Unsettled place (Pickup (Backup fed)) ∷ Unsettled place (Curve stalled) ∷ Unsettled place Delay ∷
+    Study place ∷ Card place ∷ Edit ∷ Input place ∷ Slope ∷ []) ≡
+    (0 ∷ 0 ∷ 0 ∷ []) ∷ (1 ∷ place ∷ 0 ∷ []) ∷ (2 ∷ 0 ∷ 0 ∷ []) ∷ (3 ∷ 0 ∷ 0 ∷ []) ∷
+    (4 ∷ place ∷ field ∷ []) ∷ (5 ∷ place ∷ 0 ∷ []) ∷
+    (11 ∷ place ∷ 0 ∷ []) ∷ (12 ∷ place ∷ 0 ∷ []) ∷ (13 ∷ place ∷ fed ∷ []) ∷
+    (14 ∷ stalled ∷ 0 ∷ []) ∷ (7 ∷ place ∷ 0 ∷ []) ∷
+    (8 ∷ place ∷ 0 ∷ []) ∷ (9 ∷ place ∷ 0 ∷ []) ∷ (10 ∷ 0 ∷ 0 ∷ []) ∷
+    (16 ∷ place ∷ 0 ∷ []) ∷ (17 ∷ 0 ∷ 0 ∷ []) ∷ []
 table place field fed stalled = refl

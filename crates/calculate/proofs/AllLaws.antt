@@ -20,6 +20,8 @@ use Rattle.layout.specs.Card.{cardRowAt, putCardRow}
 use Rattle.layout.specs.List.{rows, rowAt}
 use Rattle.layout.specs.View.{viewOf}
 use Rattle.layout.proofs.CardLaws.{putCardRow-length}
+use Rattle.feeding.specs.Fed.{Linked}
+use Rattle.settle.specs.Conditions.{fed}
 use Rattle.settle.specs.declared.Settled.{Settled}
 use Rattle.settle.specs.declared.Settled.the-variants.{Set, Unset}
 use Rattle.settle.specs.Settle.{shown, settled}
@@ -46,9 +48,9 @@ pub record Passing (l c₀ s₀ c s : List ℕ) (i : ℕ) : Type 0 where
   pub card-length : length c ≡ length c₀
   pub sums-length : length s ≡ length s₀
 
-pub all-start : (l : List ℕ) (n : ℕ) (c s : List ℕ) → AllReady l n c s → Passing l c s c s 0
+pub all-start : (l links : List ℕ) (n : ℕ) (c s : List ℕ) → AllReady l links n c s → Passing l c s c s 0
 unfolding calculation
-all-start l n c s a =
+all-start l links n c s a =
     record {
       within = omega arith;
       working = work-start l c s (a .unworked) (below 0) everyRow (λ j. le-ltb j 0 (omega arith));
@@ -70,13 +72,14 @@ below-next i j =
 
 -- row i is the next to be worked out
 module _ (l c₀ s₀ c s : List ℕ) (i : ℕ) (v : Passing l c₀ s₀ c s i) (h : i < rows l) where
-  pub all-ready : WorkReady l i c s
-  all-ready = work-ready l (below i) everyRow c s (v .working) i h (λ f. refl) refl
+  fed-done : (j : ℕ) → j < rows l → fed (viewOf l) i j ≡ true → below i j ≡ true
+  fed-done j b g = lt-ltb j i (fed-below l (v .working .feeds) i j b g)
 
-  settles : settledAt l i s ≡ settled (viewOf l) (cardRowAt c) i
-  settles =
-      work-settles l (below i) everyRow c s (v .working) i h refl
-      (λ j b g. lt-ltb j i (fed-below l (v .working .feeds) i j b g))
+  pub all-ready : (links : List ℕ) → Linked l links → WorkReady l links i c s
+  all-ready links linked = work-ready l (below i) everyRow c s (v .working) i h (λ f. refl) links linked refl fed-done
+
+  settles : settledAt l i c s ≡ settled (viewOf l) (cardRowAt c) i
+  settles = work-settles l (below i) everyRow c s (v .working) i h refl fed-done
 
   -- what follows row i's settings
   abbrev rest : CardRow → Worked
@@ -84,7 +87,7 @@ module _ (l c₀ s₀ c s : List ℕ) (i : ℕ) (v : Passing l c₀ s₀ c s i) 
 
   goes-on :
       calculation l c₀ ≡
-      onSettled i (settledAt l i s) (λ k. workOut l (upFrom (i + 1) (rows l - (i + 1))) (putCardRow c i k))
+      onSettled i (settledAt l i c s) (λ k. workOut l (upFrom (i + 1) (rows l - (i + 1))) (putCardRow c i k))
   unfolding workOut upFrom
   goes-on =
       let e : rows l - i ≡ suc (rows l - suc i) = omega arith in
@@ -96,7 +99,7 @@ module _ (l c₀ s₀ c s : List ℕ) (i : ℕ) (v : Passing l c₀ s₀ c s i) 
       (t : Tested) (a : Answer) (c′ s′ : List ℕ) → t ≡ Refused a → Stepped (step l i c s) t c′ s′ → calculation l c₀ ≡ workedAs
       (Refused a) c′
   unfolding step workedAs stepBy onSettled
-  all-refused t a c′ s′ e z = goes-on ∙ by-cases (settledAt l i s) (sym e ∙ z .answer)
+  all-refused t a c′ s′ e z = goes-on ∙ by-cases (settledAt l i c s) (sym e ∙ z .answer)
     where
       by-cases : (o : Settled) → Refused a ≡ stepBy l i c s o .tested → onSettled i o rest ≡ refused a
       by-cases (Set o) e = absurd (never-passed (sym e))
@@ -104,10 +107,10 @@ module _ (l c₀ s₀ c s : List ℕ) (i : ℕ) (v : Passing l c₀ s₀ c s i) 
 
   pub all-next : (t : Tested) (c′ s′ : List ℕ) → t ≡ Passed → Stepped (step l i c s) t c′ s′ → Passing l c₀ s₀ c′ s′ (i + 1)
   unfolding step stepBy onSettled
-  all-next t c′ s′ p z = by-cases (settledAt l i s) refl z
+  all-next t c′ s′ p z = by-cases (settledAt l i c s) refl z
     where
       by-cases :
-          (o : Settled) → settledAt l i s ≡ o → Stepped (stepBy l i c s o) t c′ s′ → Passing l c₀ s₀ c′
+          (o : Settled) → settledAt l i c s ≡ o → Stepped (stepBy l i c s o) t c′ s′ → Passing l c₀ s₀ c′
           s′ (i + 1)
       by-cases (Set o) e z =
           rw (z .card, z .sums)
@@ -118,7 +121,7 @@ module _ (l c₀ s₀ c s : List ℕ) (i : ℕ) (v : Passing l c₀ s₀ c s i) 
                 (settled-to l (below i) everyRow c s (v .working) i h o (sym e));
             left = sym (goes-on ∙ ap (λ (s : Settled). onSettled i s rest) e);
             card-length = putCardRow-length c i (shown o) ∙ v .card-length;
-            sums-length = pushed-length l (rowAt l i) (shown o) s ∙ v .sums-length;
+            sums-length = pushed-length (rowAt l i) (shown o) s ∙ v .sums-length;
           })
       by-cases (Unset why) e z = absurd (never-passed (sym p ∙ z .answer))
 

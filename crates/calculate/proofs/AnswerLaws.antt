@@ -1,5 +1,5 @@
 -- The whole calculation's answer, one law for each way that it ends.
-use mathlib.Core.Path.{_≡_, refl, sym, ap, _∙_}
+use mathlib.Core.Path.{_≡_, refl, sym, ap, _∙_, subst}
 use mathlib.Core.List.{List, _++_}
 use Prim.Native.Nat.{ℕ, _*_, _≤_}
 use native.Mathlib.Nat.{mul-comm}
@@ -16,8 +16,10 @@ use Rattle.rows.proofs.InRangeLaws.{passed-feeds}
 use Rattle.rows.proofs.TestLaws.{SizeRight, size-passed}
 use Rattle.rowwise.specs.Sums.{askCount}
 use Rattle.rowwise.specs.WorkOut.{Worked, onPassed}
-use Rattle.calculate.specs.Ready.{AllReady, Answered}
-use Rattle.calculate.specs.Whole.{ending, calculation, workedAs, whole}
+use Rattle.feeding.specs.Fed.{linkCount, Linked, LinkReady}
+use Rattle.rowwise.proofs.LinkLaws.{link-ready}
+use Rattle.calculate.specs.Ready.{AllReady, WorkTested, Answered}
+use Rattle.calculate.specs.Whole.{Result, ending, calculation, workedAs, whole}
 use Rattle.calculate.proofs.FrameLaws.{framed, calculation-frame}
 
 module _ (l c : List ℕ) where
@@ -33,49 +35,60 @@ module _ (l c : List ℕ) where
     unfolding whole ending onPassed
     answered-rows t a e f = rw (sym es ∙ fs, sym e ∙ f) (record { answer = refl; card = refl })
 
+    -- both passed: what is left is the calculation
     module _ (t : Tested) (et : t ≡ rowsTest l) (ft : t ≡ Passed) where
-      -- on a card of its own with room for every row, and sums that are 0
-      pub own-ready :
-          (z y : List ℕ) → cardMost ≤ length z → rowsMost * askCount ≤ length y → ((x : ℕ) → getD y x 0 ≡ 0) → AllReady l (rows l) z y
-      own-ready z y h k q =
-          record {
-            all-rows = refl;
-            unworked =
-                record {
-                  rows-to = omega (arith, size .most-rows);
-                  tested = sym et ∙ ft;
-                  card-room = omega (arith, size .most-rows);
-                  sums-room = omega (arith, size .most-rows);
-                  sums-clear = q;
-                };
-          }
+      pub work-tested : WorkTested l c
+      work-tested =
+          record { rows-to = omega (arith, size .most-rows); tested = sym et ∙ ft; card-room = omega (arith, size .card-room) }
 
-      pub rows-to : rows l ≤ rowsMost
-      rows-to = omega (arith, size .most-rows)
+      worked : whole l c ≡ ending c (calculation l c)
+      unfolding whole onPassed
+      worked = rw (sym es ∙ fs, sym et ∙ ft)
 
-      pub room-for : columnCount * rows l ≤ length c
-      room-for = size .card-room
+      pub answered-worked : (a : Answer) (c′ : List ℕ) → Answered (ending c (calculation l c)) a c′ → Answered (whole l c) a c′
+      answered-worked a c′ = subst (λ (z : Result). Answered z a c′) (sym worked)
 
-      calculates :
-          (z : List ℕ) (w : Worked) → cardMost ≤ length z → calculation l z ≡ w → whole l c ≡ ending c (framed (rows l * columnCount) c w)
-      unfolding whole ending onPassed
-      calculates z w h e =
-          rw (sym es ∙ fs, sym et ∙ ft)
-          (ap (ending c)
-          (calculation-frame l (passed-feeds l (sym et ∙ ft)) z c (omega (arith, size .most-rows)) (omega (arith, size .card-room)) ∙
-          ap (framed (rows l * columnCount) c) e))
+module _ (l c : List ℕ) (r : WorkTested l c) where
+  pub links-ready : (links : List ℕ) → rowsMost * linkCount ≤ length links → LinkReady l links
+  links-ready links h = link-ready l links (passed-feeds l (r .tested)) (r .rows-to) h
 
-      pub answered-refused :
-          (z z′ : List ℕ) (w : Tested) (a : Answer) → cardMost ≤ length z → calculation l z ≡ workedAs w z′ → w ≡ Refused a →
-          Answered (whole l c) a c
-      unfolding ending framed workedAs
-      answered-refused z z′ w a h e f =
-          rw (calculates z (workedAs w z′) h e, f) (record { answer = refl; card = refl })
+  -- on a card of its own with room for every row, and sums that are 0
+  pub own-ready :
+      (links z y : List ℕ) → Linked l links → cardMost ≤ length z → rowsMost * askCount ≤ length y → ((x : ℕ) → getD y x 0 ≡ 0) →
+      AllReady l links (rows l) z y
+  own-ready links z y e h k q =
+      record {
+        all-rows = refl;
+        linked = e;
+        unworked =
+            record {
+              rows-to = r .rows-to;
+              tested = r .tested;
+              card-room = omega (arith, r .rows-to);
+              sums-room = omega (arith, r .rows-to);
+              sums-clear = q;
+            };
+      }
 
-      pub answered-done :
-          (z z′ c′ : List ℕ) (w : Tested) → cardMost ≤ length z → calculation l z ≡ workedAs w z′ → w ≡ Passed →
-          c′ ≡ take (columnCount * rows l) z′ ++ drop (columnCount * rows l) c → Answered (whole l c) Done c′
-      unfolding ending framed workedAs
-      answered-done z z′ c′ w h e f g =
-          rw (calculates z (workedAs w z′) h e, f)
-          (record { answer = refl; card = g ∙ ap (λ (n : ℕ). take n z′ ++ drop n c) (mul-comm columnCount (rows l)) })
+  calculates :
+      (z : List ℕ) (w : Worked) → cardMost ≤ length z → calculation l z ≡ w →
+      ending c (calculation l c) ≡ ending c (framed (rows l * columnCount) c w)
+  calculates z w h e =
+      ap (ending c)
+      (calculation-frame l (passed-feeds l (r .tested)) z c (omega (arith, r .rows-to)) (r .card-room) ∙
+      ap (framed (rows l * columnCount) c) e)
+
+  pub answered-refused :
+      (z z′ : List ℕ) (w : Tested) (a : Answer) → cardMost ≤ length z → calculation l z ≡ workedAs w z′ → w ≡ Refused a →
+      Answered (ending c (calculation l c)) a c
+  unfolding ending framed workedAs
+  answered-refused z z′ w a h e f =
+      rw (calculates z (workedAs w z′) h e, f) (record { answer = refl; card = refl })
+
+  pub answered-done :
+      (z z′ c′ : List ℕ) (w : Tested) → cardMost ≤ length z → calculation l z ≡ workedAs w z′ → w ≡ Passed →
+      c′ ≡ take (columnCount * rows l) z′ ++ drop (columnCount * rows l) c → Answered (ending c (calculation l c)) Done c′
+  unfolding ending framed workedAs
+  answered-done z z′ c′ w h e f g =
+      rw (calculates z (workedAs w z′) h e, f)
+      (record { answer = refl; card = g ∙ ap (λ (n : ℕ). take n z′ ++ drop n c) (mul-comm columnCount (rows l)) })

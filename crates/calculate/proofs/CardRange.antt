@@ -1,7 +1,6 @@
--- The card that the whole calculation gives, in range as 9 CARD asks [01 §4], [02 §1]: pickups from 1 and cutoffs to 100,000,000, of secondary rows
--- to 500,000, delays to 100,000.
--- And it has as many numbers as the lent one.
-use mathlib.Core.Path.{_≡_, refl, sym, subst}
+-- The card that the whole calculation gives, in range as 9 CARD asks [01 §4], [02 §1, §3]: pickups from 1 and cutoffs to 100,000,000, of secondary
+-- rows to 500,000, delays to 100,000, laws to 2, multipliers to 1,500. And it has as many numbers as the lent one.
+use mathlib.Core.Path.{_≡_, refl, sym, _∙_, subst}
 use mathlib.Core.Bool.{Bool, true, false, cond}
 use mathlib.Core.List.{List}
 use Prim.Native.Nat.{ℕ, _≤_, _<_}
@@ -26,6 +25,7 @@ use Rattle.sides.specs.declared.Secondary.{Secondary}
 use Rattle.sides.specs.Sides.{keyed, settingMost}
 use Rattle.settle.specs.Conditions.{primaryOf, staysClear, seesNear}
 use Rattle.settle.proofs.PickupLaws.{found-bounded}
+use Rattle.settle.proofs.TimeLaws.{by-law, setting-definite, setting-curve}
 use Rattle.settle.specs.Inequalities.{LeastRow}
 use Rattle.settle.specs.Settle.{leastPickup, fitting, cutoffOf, printed}
 use Rattle.rowwise.specs.WorkOut.{Worked, finished, refused, onPassed}
@@ -54,9 +54,17 @@ pub least-in-range : (v : View) (k : Settings) (i : ℕ) → Bounded (v .row i) 
 least-in-range v k i b m =
     let low = b .low-from in
     record {
-      pickup-from = omega (arith, m .available .on-grid);
-      pickup-to = le-trans (m .available .within) (b .high-to);
-      delay-to = le-trans (m .delay .D1 .1) (b .ceiling-to);
+      pickup-from = omega (arith, m .pickup .available .on-grid);
+      pickup-to = le-trans (m .pickup .available .within) (b .high-to);
+      delay-to =
+          by-law (k i .law)
+          (λ e. omega (arith, setting-definite (k i) e, m .time .offered .delay (sym (m .law) ∙ e)))
+          (λ n. omega (arith, m .curve-delay n));
+      law-to = omega (arith, m .law, b .law-to);
+      multiplier-to =
+          by-law (k i .law)
+          (λ e. omega (arith, m .definite-multiplier e))
+          (λ n. omega (arith, setting-curve (k i) n, m .time .offered .multiplier (λ e. n (m .law ∙ e)) .1));
       cutoff-to = subst (λ (C : Secondary). C .0 ≤ settingMost (v .row i .ratio .primary)) (sym (m .cutoff)) (cutoff-to (v .row i) b);
     }
 

@@ -13,7 +13,7 @@ use Rattle.fold.proofs.FoldLaws.{below-cases}
 use Rattle.answers.specs.declared.Answer.{Answer}
 use Rattle.answers.specs.declared.Answer.the-variants.{Unsettled}
 use Rattle.answers.specs.declared.Reason.{Reason}
-use Rattle.answers.specs.declared.Reason.the-variants.{Pickup, Delay}
+use Rattle.answers.specs.declared.Reason.the-variants.{Pickup, Curve, Delay}
 use Rattle.answers.specs.declared.Tested.{Tested}
 use Rattle.layout.specs.Card.{cardRowAt, putCardRow}
 use Rattle.layout.specs.Counts.{columnCount}
@@ -28,10 +28,10 @@ use Rattle.settle.specs.declared.Settled.the-variants.{Unset}
 use Rattle.settle.specs.Settle.{shown, settled}
 use Rattle.settle.specs.Inequalities.{RowSettled}
 use Rattle.settle.proofs.SameLaws.{settled-same, fed-below}
-use Rattle.settle.proofs.SettledTheorems.{least-settled, no-pickup-exactly, no-delay-exactly}
+use Rattle.settle.proofs.SettledTheorems.{least-settled, no-pickup-exactly, no-curve-exactly, no-delay-exactly}
 use Rattle.rowwise.specs.WorkOut.{refused, onSettled, onPassed, workOut, upFrom}
 use Rattle.calculate.specs.Gets.{Gets}
-use Rattle.calculate.specs.Refused.{UpTo, RefusedAt, NO-PICKUP, DELAY}
+use Rattle.calculate.specs.Refused.{UpTo, RefusedAt, NO-PICKUP, CURVE, DELAY}
 use Rattle.calculate.specs.Whole.{ending, calculation, whole}
 use Rattle.calculate.proofs.Demand2.{accepted-meets, settings-accepted, done-or-refused}
 
@@ -85,13 +85,15 @@ module _ (l c : List ℕ) where
     calculated = rw (get-size l (length c) (SizeGets.passed s r), get-rows l (size-rows l s) (RowsGet.passed a b))
 
     below : (k : Settings) (i : ℕ) → UpTo (viewOf l) k i → (j : ℕ) → j < i → RowSettled (viewOf l) k j
-    below k i u j g = least-settled (viewOf l) k j (bounded j (omega (arith, u .is-row)) .step-from) (u .rows-below j g)
+    below k i u j g = least-settled (viewOf l) k j (bounded j (omega (arith, u .is-row))) (u .rows-below j g)
 
     refused-whole : {x : Answer} → RefusedAt (viewOf l) x → calculation l c ≡ refused x
     refused-whole (NO-PICKUP k i why u n) =
-        refuses l b k i (u .is-row) (Pickup why) (no-pickup-exactly (viewOf l) k i (bounded i (u .is-row) .step-from) why .1 n) (below k i u) c r
-    refused-whole (DELAY k i u p n) =
-        refuses l b k i (u .is-row) Delay (no-delay-exactly (viewOf l) k i (bounded i (u .is-row) .step-from) .1 (p, n)) (below k i u) c r
+        refuses l b k i (u .is-row) (Pickup why) (no-pickup-exactly (viewOf l) k i (bounded i (u .is-row)) why .1 n) (below k i u) c r
+    refused-whole (CURVE k i x place u p n) =
+        refuses l b k i (u .is-row) (Curve place) (no-curve-exactly (viewOf l) k i (bounded i (u .is-row)) place .1 (x, p, n)) (below k i u) c r
+    refused-whole (DELAY k i x u p m n) =
+        refuses l b k i (u .is-row) Delay (no-delay-exactly (viewOf l) k i (bounded i (u .is-row)) .1 (x, p, m, n)) (below k i u) c r
 
   get-whole : {x : Answer} → Gets l c x → whole l c .answer ≡ x
   unfolding whole ending onPassed

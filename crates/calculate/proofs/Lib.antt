@@ -5,6 +5,7 @@ pub mod Demand1
 pub mod Demand2
 pub mod FrameLaws
 pub mod LeastLaws
+pub mod LeastSetLaws
 pub mod MeetsLaws
 pub mod RefusedLaws
 pub mod SettledLaws

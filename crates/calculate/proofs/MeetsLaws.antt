@@ -1,6 +1,6 @@
--- Settings that are least row by row meet every condition; what meets the conditions still does where the rows below have a lower
--- pickup or a shorter delay; and where these have the same pickups, the cause that no pickup fits is the same.
-use mathlib.Core.Path.{_≡_, sym}
+-- What meets the conditions still does where the rows below have a lower pickup or, at the same pickups, a lesser setting; and where they
+-- have the same pickups, the cause that no pickup fits is the same.
+use mathlib.Core.Path.{_≡_, sym, ap, _∙_, subst}
 use Prim.Native.Nat.{ℕ, _≤_, _<_}
 use native.Mathlib.Nat.{mul-le-mul-right, le-of-eq}
 use native.Mathlib.Omega.{arith}
@@ -8,12 +8,15 @@ use Rattle.layout.specs.View.{View, Settings}
 use Rattle.answers.specs.declared.Cause.{Cause}
 use Rattle.sides.specs.declared.Primary.{Primary}
 use Rattle.sides.specs.declared.Secondary.{Secondary}
-use Rattle.settle.specs.Conditions.{pickupAt}
-use Rattle.settle.specs.Inequalities.{Feeding, LowerMet, PickupMet, DelayMet, Candidate, CauseIs, LeastRow}
+use Rattle.curve.specs.Curve.{timeOf}
+use Rattle.curve.proofs.CurveLaws.{time-rises}
+use Rattle.layout.specs.declared.Row.{Row}
+use Rattle.settle.specs.Conditions.{primaryOf, pickupAt, multipleAt, settingOf, fedMultiple, fedTime}
+use Rattle.settle.specs.Inequalities.{Feeding, LowerMet, PickupMet, Candidate, CauseIs, RunsAbove, Runs, CurveIs, TimeMet}
+use Rattle.settle.specs.Inequalities.CurveIs.{OWN, FED, THERE}
 use Rattle.settle.specs.Inequalities.CauseIs.{RANGE, OWN-ZONE, BACKUP}
-use Rattle.calculate.specs.Meets.{Meets}
 
--- a lower pickup or a shorter delay below asks no more
+-- a lower pickup below asks no more
 module _ (v : View) (k k′ : Settings) (i : ℕ) where
   lower-down :
       (I : Primary) → ((j : ℕ) → j < v .count → Feeding v i j → pickupAt v k j .0 ≤ pickupAt v k′ j .0) → LowerMet v k′ i I → LowerMet v k i I
@@ -24,17 +27,61 @@ module _ (v : View) (k k′ : Settings) (i : ℕ) where
       (I : Primary) → ((j : ℕ) → j < v .count → Feeding v i j → pickupAt v k j .0 ≤ pickupAt v k′ j .0) → PickupMet v k′ i I → PickupMet v k i I
   pickup-down I u m = record { P1-P2 = lower-down I u (m .P1-P2); P3 = m .P3; P4 = m .P4 }
 
-  pub delay-down :
-      (t : ℕ) → ((j : ℕ) → j < v .count → Feeding v i j → k j .delay ≤ k′ j .delay) → DelayMet v k′ i t → DelayMet v k i t
-  delay-down t u m =
+-- a fed row j in k under the same row in k′: the same pickup and law, and a setting that is no greater
+pub record Under (v : View) (k k′ : Settings) (j : ℕ) : Type 0 where
+  pub same-pickup : pickupAt v k j ≡ pickupAt v k′ j
+  pub same-law : k j .law ≡ k′ j .law
+  pub setting-to : settingOf (k j) ≤ settingOf (k′ j)
+
+pub under-same : (v : View) (k k′ : Settings) (j : ℕ) → k j ≡ k′ j → Under v k k′ j
+under-same v k k′ j e =
+    record {
+      same-pickup = λ t. primaryOf (v .row j) (e t .pickup);
+      same-law = λ t. e t .law;
+      setting-to = le-of-eq (ap settingOf e);
+    }
+
+module _ (v : View) (k k′ : Settings) (j : ℕ) (u : Under v k k′ j) where
+  same-multiple : fedMultiple (v .row j) (k j) ≡ fedMultiple (v .row j) (k′ j)
+  same-multiple = ap (multipleAt (v .row j) (v .row j)) (u .same-pickup)
+
+  fed-time-down : fedTime (v .row j) (k j) ≤ fedTime (v .row j) (k′ j)
+  fed-time-down =
+      subst (λ (t : ℕ). t ≤ fedTime (v .row j) (k′ j)) (λ t. timeOf (sym (u .same-law) t) (sym same-multiple t) (settingOf (k j)))
+      (time-rises (k′ j .law) (fedMultiple (v .row j) (k′ j)) (settingOf (k j)) (settingOf (k′ j)) (u .setting-to))
+
+  runs-alike : (r : Row) (I : Primary) → RunsAbove r (v .row j) (k′ j) I → RunsAbove r (v .row j) (k j) I
+  runs-alike r I h =
       record {
-        D1 = m .D1;
-        D2 =
-            λ j h f.
-            let below = u j h f in
-            let d = m .D2 j h f in
-            record { fed-step = omega (arith, d .fed-step); own-step = omega (arith, d .own-step) };
+        fed-runs = λ n. subst (λ (m : ℕ). 1000 < m) (sym same-multiple) (h .fed-runs (λ z. n (u .same-law ∙ z)));
+        own-runs = h .own-runs;
       }
+
+-- what meets D1 and D2 above some settings meets them above lesser ones
+pub time-down :
+    (v : View) (k k′ : Settings) (i : ℕ) (I : Primary) (x : ℕ) → ((j : ℕ) → j < v .count → Feeding v i j → Under v k k′ j) →
+    TimeMet v k′ i I x → TimeMet v k i I x
+time-down v k k′ i I x u m =
+    record {
+      offered = m .offered;
+      runs =
+          record {
+            own = m .runs .own;
+            above = λ j h f. runs-alike v k k′ j (u j h f) (v .row i) I (m .runs .above j h f);
+          };
+      D1 = m .D1;
+      D2 =
+          λ j h f.
+          let below = fed-time-down v k k′ j (u j h f) in
+          let d = m .D2 j h f in
+          record { fed-step = omega (arith, d .fed-step); own-step = omega (arith, d .own-step) };
+    }
+
+-- where an M that is needed is at most 1.000, not every one is over it
+pub curve-not-runs : (v : View) (k : Settings) (i : ℕ) (I : Primary) {place : ℕ} → CurveIs v k i I place → Runs v k i I → ⊥
+curve-not-runs v k i I (OWN a b) r = omega (arith, r .own a)
+curve-not-runs v k i I (FED j u a b) r = omega (arith, r .above j (u .is-row) (u .feeding) .fed-runs a)
+curve-not-runs v k i I (THERE j u g a b) r = omega (arith, r .above j (u .is-row) (u .feeding) .own-runs a)
 
 -- above fed rows with the same pickups the cause is the same
 lower-alike :
@@ -58,10 +105,3 @@ module _ (v : View) (k k′ : Settings) (i : ℕ) (same : (j : ℕ) → j < v .c
   cause-alike (RANGE n) = RANGE (λ x a h. n x a (back _ h))
   cause-alike (OWN-ZONE x m n) = OWN-ZONE x (candidate-alike x m) n
   cause-alike (BACKUP x j m z u) = BACKUP x j (candidate-alike x m) z u
-
-pub least-meets : (v : View) (k : Settings) → ((j : ℕ) → j < v .count → LeastRow v k j) → Meets v k
-least-meets v k all =
-    record {
-      pickups = record { available = λ i h. all i h .available; met = λ i h. all i h .pickup };
-      delays = λ i h. all i h .delay;
-    }

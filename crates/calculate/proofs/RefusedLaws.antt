@@ -8,7 +8,7 @@ use lib.ListN.{length}
 use Rattle.answers.specs.declared.Answer.{Answer}
 use Rattle.answers.specs.declared.Answer.the-variants.{Done, Unsettled}
 use Rattle.answers.specs.declared.Reason.{Reason}
-use Rattle.answers.specs.declared.Reason.the-variants.{Pickup, Delay}
+use Rattle.answers.specs.declared.Reason.the-variants.{Pickup, Curve, Delay}
 use Rattle.answers.proofs.AnswerLaws.{unsettled-not-done}
 use Rattle.layout.specs.Card.{cardRowAt, putCardRow}
 use Rattle.layout.specs.Counts.{columnCount}
@@ -21,17 +21,18 @@ use Rattle.settle.specs.declared.Outcome.{Outcome}
 use Rattle.settle.specs.declared.Settled.{Settled}
 use Rattle.settle.specs.declared.Settled.the-variants.{Set, Unset}
 use Rattle.settle.specs.Settle.{shown, settled}
-use Rattle.settle.proofs.SettledTheorems.{settled-least, no-pickup-exactly, no-delay-exactly}
+use Rattle.settle.proofs.SettledTheorems.{settled-least, no-pickup-exactly, no-curve-exactly, no-delay-exactly}
 use Rattle.rowwise.specs.WorkOut.{refused, onSettled, workOut, upFrom}
 use Rattle.rowwise.proofs.EndLaws.{never-finished, same-refusal}
-use Rattle.calculate.specs.Refused.{UpTo, RefusedAt, NO-PICKUP, DELAY}
+use Rattle.calculate.specs.Refused.{UpTo, RefusedAt, NO-PICKUP, CURVE, DELAY}
 use Rattle.calculate.specs.Whole.{calculation}
 use Rattle.calculate.proofs.SettledLaws.{Settles, next-settled}
 
 -- it is no acceptance
 pub refused-not-done : {v : View} {a : Answer} → RefusedAt v a → a ≡ Done → ⊥
 refused-not-done (NO-PICKUP k i why u n) e = unsettled-not-done e
-refused-not-done (DELAY k i u p n) e = unsettled-not-done e
+refused-not-done (CURVE k i x place u p n) e = unsettled-not-done e
+refused-not-done (DELAY k i x u p r n) e = unsettled-not-done e
 
 module _ (l : List ℕ) (a : AllBounded (viewOf l)) (b : Feeds l) where
   refused-from :
@@ -50,13 +51,16 @@ module _ (l : List ℕ) (a : AllBounded (viewOf l)) (b : Feeds l) where
 
       up-to : UpTo (viewOf l) (cardRowAt c) i
       up-to =
-          record { is-row = h; rows-below = λ j g. settled-least (viewOf l) (cardRowAt c) j (a j (omega arith) .step-from) (all j g) }
+          record { is-row = h; rows-below = λ j g. settled-least (viewOf l) (cardRowAt c) j (a j (omega arith)) (all j g) }
 
       named : (why : Reason) → settled (viewOf l) (cardRowAt c) i ≡ Unset why → RefusedAt (viewOf l) (Unsettled (i + 1) why)
-      named (Pickup why) s = NO-PICKUP (cardRowAt c) i why up-to (no-pickup-exactly (viewOf l) (cardRowAt c) i (a i h .step-from) why .0 s)
+      named (Pickup why) s = NO-PICKUP (cardRowAt c) i why up-to (no-pickup-exactly (viewOf l) (cardRowAt c) i (a i h) why .0 s)
+      named (Curve place) s =
+          let d = no-curve-exactly (viewOf l) (cardRowAt c) i (a i h) place .0 s in
+          CURVE (cardRowAt c) i (d .0) place up-to (d .1) (d .2)
       named Delay s =
-          let d = no-delay-exactly (viewOf l) (cardRowAt c) i (a i h .step-from) .0 s in
-          DELAY (cardRowAt c) i up-to (d .0) (d .1)
+          let d = no-delay-exactly (viewOf l) (cardRowAt c) i (a i h) .0 s in
+          DELAY (cardRowAt c) i (d .0) up-to (d .1) (d .2) (d .3)
 
       by-cases :
           (s : Settled) → settled (viewOf l) (cardRowAt c) i ≡ s → onSettled i s (λ k. workOut l (upFrom (suc i) m) (putCardRow c i k)) ≡ refused x →

@@ -1,5 +1,5 @@
--- [01 §4], [02 §2] DEMAND 1, for a list lent as numbers: the answer that it gets, each number exactly where it is due, all that comes before it
--- in the order (2, 3, 4 over all rows, 5 over all rows, then row by row 11, 12 or 13 before 7) absent. Definitions only.
+-- [01 §4], [02 §2, §3] DEMAND 1, for a list lent as numbers: the answer that it gets, each number exactly where it is due, all that comes before it
+-- in the order (2, 3, 4 over all rows, 5 over all rows, then row by row 11, 12 or 13 before 14, and 14 before 7) absent. Definitions only.
 use mathlib.Core.List.{List}
 use Prim.Native.Nat.{ℕ, _+_}
 use lib.ListN.{length}

@@ -1,17 +1,29 @@
 -- What the functions of the whole calculation ask of their callers, and the shape of their promises. Definitions only.
 use mathlib.Core.Path.{_≡_}
 use mathlib.Core.List.{List}
-use Prim.Native.Nat.{ℕ}
+use Prim.Native.Nat.{ℕ, _*_, _≤_}
+use lib.ListN.{length}
 use Rattle.answers.specs.declared.Answer.{Answer}
 use Rattle.answers.specs.Answer.{givenBy}
+use Rattle.answers.specs.declared.Tested.the-variants.{Passed}
+use Rattle.feeding.specs.Fed.{Linked}
+use Rattle.layout.specs.Counts.{columnCount, rowsMost}
 use Rattle.layout.specs.List.{rows}
+use Rattle.rows.specs.Tests.{rowsTest}
 use Rattle.rowwise.specs.Working.{Unworked}
 use Rattle.calculate.specs.Whole.{Result}
 
--- all n rows of a list, none worked out
-pub record AllReady (l : List ℕ) (n : ℕ) (c s : List ℕ) : Type 0 where
+-- all n rows of a list, linked, none worked out
+pub record AllReady (l links : List ℕ) (n : ℕ) (c s : List ℕ) : Type 0 where
   pub all-rows : n ≡ rows l
+  pub linked : Linked l links
   pub unworked : Unworked l c s
+
+-- a list of at most 256 rows that passed the tests of its rows, with room for its card
+pub record WorkTested (l c : List ℕ) : Type 0 where
+  pub rows-to : rows l ≤ rowsMost
+  pub tested : rowsTest l ≡ Passed
+  pub card-room : rows l * columnCount ≤ length c
 
 -- the answer and the card are the result's
 pub record Answered (z : Result) (a : Answer) (c : List ℕ) : Type 0 where

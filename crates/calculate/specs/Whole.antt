@@ -1,5 +1,6 @@
--- [01 §4], [02 §2] The whole calculation of a list lent as numbers, on a card lent as numbers: the answer, and the card afterwards.
--- The order is 2, 3, then 4 over all rows, then 5 over all rows, then row by row 11, 12 or 13 before 7. On a refusal the card is unchanged.
+-- [01 §4], [02 §2, §3] The whole calculation of a list lent as numbers, on a card lent as numbers: the answer, and the card afterwards.
+-- The order is 2, 3, then 4 over all rows, then 5 over all rows, then row by row 11, 12 or 13 before 14, and 14 before 7. On a refusal the
+-- card is unchanged.
 -- Definitions only.
 use mathlib.Core.List.{List}
 use Prim.Native.Nat.{ℕ}

@@ -4,6 +4,8 @@ use answers::NUMBERS;
 use answers::Tested;
 use answers::numbers;
 use blocks::put;
+use feeding::LINKS;
+use feeding::link;
 use layout::CARD;
 use layout::COLUMNS;
 use layout::FIELDS;
@@ -15,17 +17,17 @@ ghost use mathlib.Core.Path.{_≡_};
 ghost use mathlib.Core.List.{_++_};
 ghost use Prim.Native.Nat.{_≤_};
 ghost use lib.ListN.{length, take, drop};
-ghost use Rattle.calculate.specs.Ready.{AllReady, Answered, Gave};
-ghost use Rattle.calculate.specs.Whole.{calculation, workedAs, whole};
+ghost use Rattle.calculate.specs.Ready.{AllReady, WorkTested, Answered, Gave};
+ghost use Rattle.calculate.specs.Whole.{ending, calculation, workedAs, whole};
 
 // Works out every row, in ascending order.
-fn work_all(list: &[u64], n: usize, card: &mut [u64], sums: &mut [u64]) -> Tested
-    requires { ⌜ AllReady (now list) n (now card) (now sums) ⌝ }
+fn work_all(list: &[u64], links: &[u64], n: usize, card: &mut [u64], sums: &mut [u64]) -> Tested
+    requires { ⌜ AllReady (now list) (now links) n (now card) (now sums) ⌝ }
     ensures { λ t. ⌜ calculation (now (list .entry)) (now (card .entry)) ≡ workedAs t (now (card .exit)) ⌝ }
 {
     let mut i = 0;
     while i < n {
-        let tested = work_row(list, i, card, sums);
+        let tested = work_row(list, links, i, card, sums);
         if let Tested::Refused(a) = tested {
             return Tested::Refused(a);
         }
@@ -41,7 +43,24 @@ fn copy_front(to: &mut [u64], from: &[u64], n: usize)
     put(to, 0, &from[..n]);
 }
 
-// The rows are worked out on a card of its own, so that a refusal leaves the lent one as it was.
+// A list that is tested, with room for its card. The rows are worked out on a card of its own, so that a refusal leaves the lent one as it was.
+fn work_tested(list: &[u64], card: &mut [u64]) -> Answer
+    requires { ⌜ WorkTested (now list) (now card) ⌝ }
+    ensures { λ a. ⌜ Answered (ending (now (card .entry)) (calculation (now (list .entry)) (now (card .entry)))) a (now (card .exit)) ⌝ }
+{
+    let n = list.len() / FIELDS;
+    let mut links = [0u64; LINKS];
+    link(list, &mut links);
+    let mut out = [0u64; CARD];
+    let mut sums = [0u64; SUMS];
+    let worked = work_all(list, &links, n, &mut out, &mut sums);
+    if let Tested::Refused(a) = worked {
+        return a;
+    }
+    copy_front(card, &out, COLUMNS * n);
+    Answer::Done
+}
+
 fn answer(list: &[u64], card: &mut [u64]) -> Answer
     ensures { λ a. ⌜ Answered (whole (now (list .entry)) (now (card .entry))) a (now (card .exit)) ⌝ }
 {
@@ -53,15 +72,7 @@ fn answer(list: &[u64], card: &mut [u64]) -> Answer
     if let Tested::Refused(a) = rows {
         return a;
     }
-    let n = list.len() / FIELDS;
-    let mut out = [0u64; CARD];
-    let mut sums = [0u64; SUMS];
-    let worked = work_all(list, n, &mut out, &mut sums);
-    if let Tested::Refused(a) = worked {
-        return a;
-    }
-    copy_front(card, &out, COLUMNS * n);
-    Answer::Done
+    work_tested(list, card)
 }
 
 // The public entry: the settings card of a list, or the refusal by its numbers: number, place and what names it more closely.

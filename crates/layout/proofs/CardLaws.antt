@@ -18,8 +18,8 @@ use Rattle.layout.specs.Card.{column, cardRowAt, columnsOf, putCardRow, 
 
 -- a card row is its columns
 pub same-columns :
-    {k k′ : CardRow} → k .pickup .0 ≡ k′ .pickup .0 → k .delay ≡ k′ .delay → k .cutoff .0 ≡ k′ .cutoff .0 → k .law ≡ k′ .law →
-    k .multiplier ≡ k′ .multiplier → k ≡ k′
+    {k k′ : CardRow} → k .pickup .0 ≡ k′ .pickup .0 → k .delay ≡ k′ .delay → k .cutoff .0 ≡ k′ .cutoff .0 →
+    k .law ≡ k′ .law → k .multiplier ≡ k′ .multiplier → k ≡ k′
 same-columns p d q w m = λ t. record { pickup = keyed (p t); delay = d t; cutoff = keyed (q t); law = w t; multiplier = m t }
 
 -- the test of it: equal in all their numbers
@@ -61,7 +61,8 @@ module _ (a b : CardRow) where
 
   -- the multipliers are left to compare
   pub same-but-multiplier :
-      a .pickup .0 ≡ b .pickup .0 → a .delay ≡ b .delay → a .cutoff .0 ≡ b .cutoff .0 → a .law ≡ b .law → multipliers ≡ sameCardRow a b
+      a .pickup .0 ≡ b .pickup .0 → a .delay ≡ b .delay → a .cutoff .0 ≡ b .cutoff .0 → a .law ≡ b .law →
+      multipliers ≡ sameCardRow a b
   same-but-multiplier p d q w =
       sym
       (λ t.

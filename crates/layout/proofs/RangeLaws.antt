@@ -15,7 +15,8 @@ use Rattle.layout.specs.declared.CardRow.{CardRow}
 use Rattle.layout.specs.Card.{column, cardRowAt, columnBoundsTo}
 use Rattle.layout.specs.Counts.{fieldCount, columnCount}
 use Rattle.layout.specs.Fields.{atFeeder, atKind, atVolts, atWork, atSelfstart, atReturn, atFar, atClear, atNear, atFactor, atLow, atHigh, atStep}
-use Rattle.layout.specs.Fields.{atDevice, atFloor, atCeiling, atBacked, atPrimary, atSecondary, atLaw, atGreatest, leastIn, greatestIn, inBounds}
+use Rattle.layout.specs.Fields.{atDevice, atFloor, atCeiling, atBacked, atPrimary, atSecondary, atLaw, atGreatest}
+use Rattle.layout.specs.Fields.{leastIn, greatestIn, inBounds}
 use Rattle.sides.specs.Sides.{milliamperes, keyed, RatingsFit}
 use Rattle.layout.specs.List.{field, rowAt, boundsAt}
 use Rattle.layout.specs.Range.{Within, namedCount, Bounded, CardRowInRange}
@@ -159,7 +160,8 @@ pub fields-in-order :
     rowAt
     (
     1 ∷ 2 ∷ 3 ∷ 4 ∷ 5 ∷ 6 ∷ 7 ∷ 8 ∷ 9 ∷ 10 ∷ 11 ∷ 12 ∷ 13 ∷ 14 ∷ 15 ∷ 16 ∷ 17 ∷ 18 ∷ 19 ∷ 20 ∷ 21 ∷ 22 ∷
-    101 ∷ 102 ∷ 103 ∷ 104 ∷ 105 ∷ 106 ∷ 107 ∷ 108 ∷ 109 ∷ 110 ∷ 111 ∷ 112 ∷ 113 ∷ 114 ∷ 115 ∷ 116 ∷ 117 ∷ 118 ∷ 119 ∷ 120 ∷ 121 ∷ 122 ∷ []
+    101 ∷ 102 ∷ 103 ∷ 104 ∷ 105 ∷ 106 ∷ 107 ∷ 108 ∷ 109 ∷ 110 ∷ 111 ∷ 112 ∷
+    113 ∷ 114 ∷ 115 ∷ 116 ∷ 117 ∷ 118 ∷ 119 ∷ 120 ∷ 121 ∷ 122 ∷ []
     )
     1 ≡
     record {

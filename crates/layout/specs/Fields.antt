@@ -71,8 +71,8 @@ atLaw = 20
 abbrev pub atGreatest : ℕ
 atGreatest = 21
 
--- the least and the greatest number allowed in each field, in the order of section 2's table, then two of request §1 and two of §3; low, high and step
--- go to `most`
+-- the least and the greatest number allowed in each field, in the order of section 2's table, then two of request §1 and two of §3; low, high
+-- and step go to `most`
 abbrev pub boundsTo : ℕ → List ℕ
 boundsTo most =
     1 ∷ 256 ∷  -- row

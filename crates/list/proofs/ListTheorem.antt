@@ -1,4 +1,5 @@
--- The text of a list [01 §4 TEXT, §6]. Which answer it gets, exactly, and what its rows are; each part is the theorem over all layouts, at this one:
+-- The text of a list [01 §4 TEXT, §6]. Which answer it gets, exactly, and what its rows are; each part is the theorem over all layouts, at
+-- this one:
 --     line-0-exactly      line 0 exactly where it has over 65,536 bytes
 --     line-1-exactly      line 1 exactly where it has not, and its first line is no header
 --     bad-line-exactly    line 2 + j exactly where it has not, the header comes first, and j, from 0, is the first bad line behind it
@@ -29,7 +30,8 @@ use Rattle.list.specs.List.{listColumns, ListText, reading, rowsOf}
 -- the header is one line, with a column for each number of a row and one for the name
 pub header-spelt :
     header ≡
-    spelt "row,name,feeds_from,kind,volts,work,selfstart,return,far,clear,near,factor,low,high,step,device,floor,ceiling,backed,rated_primary,rated_secondary"
+    spelt "row,name,feeds_from,kind,volts,work,selfstart,return,far,clear,near,factor,low,high,step,device,floor,ceiling,backed," ++
+    spelt "rated_primary,rated_secondary,law,near_greatest"
 unfolding header spelt
 header-spelt = refl
 

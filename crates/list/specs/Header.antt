@@ -1,4 +1,4 @@
--- The header line, exactly [01 §6], with the columns that were added [02 §1]. Definitions only.
+-- The header line, exactly [01 §6], with the columns that were added [02 §1, §3]. Definitions only.
 use mathlib.Core.List.{List, [], _∷_, _++_}
 use Prim.Native.Nat.{ℕ}
 
@@ -26,6 +26,8 @@ columns =
     (98 ∷ 97 ∷ 99 ∷ 107 ∷ 101 ∷ 100 ∷ []) ∷  -- backed
     (114 ∷ 97 ∷ 116 ∷ 101 ∷ 100 ∷ 95 ∷ 112 ∷ 114 ∷ 105 ∷ 109 ∷ 97 ∷ 114 ∷ 121 ∷ []) ∷  -- rated_primary
     (114 ∷ 97 ∷ 116 ∷ 101 ∷ 100 ∷ 95 ∷ 115 ∷ 101 ∷ 99 ∷ 111 ∷ 110 ∷ 100 ∷ 97 ∷ 114 ∷ 121 ∷ []) ∷  -- rated_secondary
+    (108 ∷ 97 ∷ 119 ∷ []) ∷  -- law
+    (110 ∷ 101 ∷ 97 ∷ 114 ∷ 95 ∷ 103 ∷ 114 ∷ 101 ∷ 97 ∷ 116 ∷ 101 ∷ 115 ∷ 116 ∷ []) ∷  -- near_greatest
     []
 
 -- names with commas between

@@ -19,7 +19,8 @@ pub fn read_list(text: &[u8], list: &mut [u64], names: &mut [u64]) -> Reading
     read_text(
         text,
         Cursor { at: 0, line: 1 },
-        b"row,name,feeds_from,kind,volts,work,selfstart,return,far,clear,near,factor,low,high,step,device,floor,ceiling,backed,rated_primary,rated_secondary",
+        b"row,name,feeds_from,kind,volts,work,selfstart,return,far,clear,near,factor,low,high,step,device,floor,ceiling,backed,\
+          rated_primary,rated_secondary,law,near_greatest",
         columns,
         list,
         names,

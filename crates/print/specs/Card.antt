@@ -1,4 +1,4 @@
--- The card and a refusal as they are printed [01 §6]. Definitions only.
+-- The card, with the columns that were added [02 §3], and a refusal as they are printed [01 §6]. Definitions only.
 use mathlib.Core.Path.{_≡_}
 use mathlib.Core.Bool.{Bool, true, cond, _&&_}
 use mathlib.Core.List.{List, [], _∷_, _++_}
@@ -12,10 +12,16 @@ use Rattle.cursor.specs.Pieces.{nameMost}
 use Rattle.cursor.specs.Names.{namesAt}
 use Rattle.print.specs.Write.{digitsMost, numberText, written}
 
--- name,pickup,delay,cutoff
+-- name,pickup,delay,cutoff,law,multiplier
 abbrev pub cardHeader : List ℕ
 cardHeader =
-    110 ∷ 97 ∷ 109 ∷ 101 ∷ 44 ∷ 112 ∷ 105 ∷ 99 ∷ 107 ∷ 117 ∷ 112 ∷ 44 ∷ 100 ∷ 101 ∷ 108 ∷ 97 ∷ 121 ∷ 44 ∷ 99 ∷ 117 ∷ 116 ∷ 111 ∷ 102 ∷ 102 ∷ 13 ∷ 10 ∷ []
+    110 ∷ 97 ∷ 109 ∷ 101 ∷ 44 ∷  -- name
+    112 ∷ 105 ∷ 99 ∷ 107 ∷ 117 ∷ 112 ∷ 44 ∷  -- pickup
+    100 ∷ 101 ∷ 108 ∷ 97 ∷ 121 ∷ 44 ∷  -- delay
+    99 ∷ 117 ∷ 116 ∷ 111 ∷ 102 ∷ 102 ∷ 44 ∷  -- cutoff
+    108 ∷ 97 ∷ 119 ∷ 44 ∷  -- law
+    109 ∷ 117 ∷ 108 ∷ 116 ∷ 105 ∷ 112 ∷ 108 ∷ 105 ∷ 101 ∷ 114 ∷  -- multiplier
+    13 ∷ 10 ∷ []
 
 -- refused,place,field
 abbrev pub refusalHeader : List ℕ
@@ -51,7 +57,7 @@ refusalText numbers = refusalHeader ++ numbersText numberCount numbers
 
 -- the bytes of the card's header, and at most those of a field, of the fields, of a line of the card, of a line of k numbers and of a refusal
 abbrev pub headerSize : ℕ
-headerSize = 26
+headerSize = 41
 
 abbrev pub fieldMost : ℕ
 fieldMost = digitsMost + 1

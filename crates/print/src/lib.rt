@@ -1,4 +1,4 @@
-// Printing the card and a refusal [01 §6].
+// Printing the card [01 §6], [02 §3] and a refusal.
 pub mod write;
 
 use answers::NUMBERS;
@@ -22,7 +22,7 @@ ghost use Rattle.print.specs.Card.{lineText, rowsText, placeRight, print
 const NAME_MOST: u64 = 24;
 
 // The bytes of the card's header, and of one line of the card at most.
-pub const HEADER: usize = 26;
+pub const HEADER: usize = 41;
 
 pub const LINE_MOST: usize = 24 + COLUMNS * FIELD_MOST + END;
 
@@ -108,7 +108,7 @@ fn put_rows(out: &mut [u8], at: usize, text: &[u8], names: &[u64], card: &[u64],
     next
 }
 
-// The card of n rows: names as they stand in the text, by their start and length, and three numbers for each.
+// The card of n rows: names as they stand in the text, by their start and length, and the columns' numbers for each.
 // Nothing where there is no room for the longest lines, or names or card have no n rows.
 pub fn print_card(text: &[u8], names: &[u64], card: &[u64], n: usize, out: &mut [u8]) -> usize
     ensures { λ r. ⌜ Printed (now (out .entry))
@@ -118,7 +118,7 @@ pub fn print_card(text: &[u8], names: &[u64], card: &[u64], n: usize, out: &mut 
     if !can_print(text.len(), names, card.len(), n, out.len()) {
         return 0;
     }
-    let next = put_block(out, 0, b"name,pickup,delay,cutoff\r\n");
+    let next = put_block(out, 0, b"name,pickup,delay,cutoff,law,multiplier\r\n");
     put_rows(out, next, text, names, card, n)
 }
 

@@ -43,7 +43,7 @@ module _ (v : View) (k : Settings) (i : ℕ) (a : Bounded (v .row i)) where
   least I = leastSetting (v .row i) (meetsTime v k i (v .row i) I)
 
   -- the pickup that is found is the least
-  pickup-exactly : (x : Secondary) → (pickupOf v k i ≡ Fits x) ↔ LeastPickup v k i x
+  pub pickup-exactly : (x : Secondary) → (pickupOf v k i ≡ Fits x) ↔ LeastPickup v k i x
   pickup-exactly x = (
     λ e.
         let m = fits-exactly v k i (a .step-from) x .0 e in

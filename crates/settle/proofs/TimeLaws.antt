@@ -35,6 +35,15 @@ is-curve law n = ap not (ne-eqb law 0 n)
 pub no-curve : (law : ℕ) → law ≡ 0 → isCurve law ≡ false
 no-curve law e = ap not (eq-eqb law 0 e)
 
+-- what a card row sets, by its law
+pub setting-definite : (s : CardRow) → s .law ≡ 0 → settingOf s ≡ s .delay
+unfolding settingOf
+setting-definite s e = rw (no-curve (s .law) e)
+
+pub setting-curve : (s : CardRow) → (s .law ≡ 0 → ⊥) → settingOf s ≡ s .multiplier
+unfolding settingOf
+setting-curve s n = rw (is-curve (s .law) n)
+
 -- a card row shows the setting that was found
 pub setting-shown : (o : Outcome) → settingOf (shown o) ≡ o .setting
 unfolding settingOf shown

@@ -1,7 +1,8 @@
 -- A PRINTED CARD CAN BE READ AGAIN [01 §6]:
 --     printed-number     a number below 1,000,000,000 is printed as the grammar writes that number
---     printed-line       a line of the card is a line of a name and three numbers
---     card-read-again    a printed card is a text of the header name,pickup,delay,cutoff and those columns, with the names and numbers printed
+--     printed-line       a line of the card is a line of a name and five numbers
+--     card-read-again    a printed card is a text of the header name,pickup,delay,cutoff,law,multiplier and those columns, with the names and
+--                        numbers printed
 --     sheet-read-again   so is what is printed for the text of a list that is done, and the reader finds those rows in it
 use mathlib.Core.Path.{_≡_, refl, sym, ap, _∙_}
 use mathlib.Core.Bool.{Bool, true}
@@ -119,7 +120,9 @@ in-range-below primary card i r = by-column (i % columnCount) refl
     by-column zero e = rw (at 0 e) (omega (arith, r .pickup-to, setting-to primary))
     by-column (suc zero) e = rw (at 1 e) (omega (arith, r .delay-to))
     by-column (suc (suc zero)) e = rw (at 2 e) (omega (arith, r .cutoff-to, setting-to primary))
-    by-column (suc (suc (suc k))) e = absurd (omega arith)
+    by-column (suc (suc (suc zero))) e = rw (at 3 e) (omega (arith, r .law-to))
+    by-column (suc (suc (suc (suc zero)))) e = rw (at 4 e) (omega (arith, r .multiplier-to))
+    by-column (suc (suc (suc (suc (suc k))))) e = absurd (omega arith)
 
 module _ (s : List ℕ) (rs : List Row) (size : length s ≤ 65536) (t : ListText s rs) (e : wholeOf rs .answer ≡ Done) where
   few : length rs ≤ 256

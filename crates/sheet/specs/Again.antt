@@ -1,4 +1,4 @@
--- [01 §6] A printed card read again: its header line, its columns, and the rows that it says. Definitions only.
+-- [01 §6], [02 §3] A printed card read again: its header line, its columns, and the rows that it says. Definitions only.
 use mathlib.Core.List.{List, [], _∷_}
 use Prim.Native.Nat.{ℕ, _-_, _*_, _≤_, _<_}
 use lib.ListN.{length, getD, take, drop, replicate}
@@ -8,7 +8,7 @@ use Rattle.layout.specs.Counts.{columnCount}
 use Rattle.text.specs.Grammar.{IsNameText, Row}
 use Rattle.print.specs.Card.{cardHeader, headerSize, lineEnd}
 
--- name,pickup,delay,cutoff, without the CRLF behind it
+-- name,pickup,delay,cutoff,law,multiplier, without the CRLF behind it
 abbrev pub cardHeaderLine : List ℕ
 cardHeaderLine = take (headerSize - length lineEnd) cardHeader
 

@@ -1,3 +1,5 @@
 pub mod Cases
 pub mod DifferentialCases
 pub mod StudyTheorems
+pub mod TimeCases
+pub mod TimeTheorems

@@ -2,6 +2,7 @@
 use answers::NUMBERS;
 use calculate::whole_calculation;
 use change::replace;
+use curve::time_of;
 use differential::Given;
 use differential::Inputs;
 use differential::differential_card;
@@ -21,6 +22,7 @@ ghost use Rattle.calculate.specs.Ready.{Gave};
 ghost use Rattle.change.specs.Ready.{Gave as GaveBoth};
 ghost use Rattle.surfpocket.specs.Differentials.{handedCard, differentialFor};
 ghost use Rattle.surfpocket.specs.Studies.{unitOf, handed, studyOf};
+ghost use Rattle.surfpocket.specs.Times.{between, mayBeAsked, timeAsked};
 ghost use Rattle.surfpocket.specs.Version.{version};
 
 #[repr(C)]
@@ -65,7 +67,7 @@ pub struct SurfpocketPrinted {
 }
 
 // It grows with every change of what is lent or given.
-const VERSION: u64 = 6;
+const VERSION: u64 = 7;
 
 #[no_mangle]
 pub extern "C" fn surfpocket_version() -> u64
@@ -204,6 +206,35 @@ pub extern "C" fn surfpocket_differential(
         differential,
         restraint,
     }))
+}
+
+fn between(least: u64, x: u64, greatest: u64) -> bool
+    ensures { λ r. ⌜ r ≡ between least x greatest ⌝ }
+{
+    least <= x && x <= greatest
+}
+
+fn may_be_asked(law: u64, multiple: u64, multiplier: u64) -> bool
+    ensures { λ r. ⌜ r ≡ mayBeAsked law multiple multiplier ⌝ }
+{
+    if !between(1, law, 2) {
+        return false;
+    }
+    if !between(1001, multiple, 20000) {
+        return false;
+    }
+    between(10, multiplier, 1500)
+}
+
+// The time in ms of curve B (1) or C (2) at a multiple of the pickup and with a multiplier, both in thousandths [02 §3]; 0 where there is none.
+#[no_mangle]
+pub extern "C" fn surfpocket_time(law: u64, multiple: u64, multiplier: u64) -> u64
+    ensures { λ t. ⌜ t ≡ timeAsked law multiple multiplier ⌝ }
+{
+    if !may_be_asked(law, multiple, multiplier) {
+        return 0;
+    }
+    time_of(law, multiple, multiplier)
 }
 
 // From the text of a list to its printed card or refusal [01 §6].

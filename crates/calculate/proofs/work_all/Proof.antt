@@ -8,48 +8,50 @@ use Rattle.calculate.proofs.work_all.Statement.{statement}
 use Rattle.calculate.proofs.work_all.Tie as tie
 
 abbrev Inv-loop : tie.InvT-loop
-Inv-loop list n card₀ sums₀ i₀ card sums i = Passing list card₀ sums₀ card sums i
+Inv-loop list links n card₀ sums₀ i₀ card sums i = Passing list card₀ sums₀ card sums i
 
 abbrev μ-loop : tie.MeasureT-loop
-μ-loop list n card₀ sums₀ i₀ card sums i = n - i
+μ-loop list links n card₀ sums₀ i₀ card sums i = n - i
+
+-- from the loop back to the start, and from where a row was worked out back to the loop's test
+abbrev start : tie.At-loop Inv-loop μ-loop → tie.Start Inv-loop μ-loop
+start c = c .before .before .before .before .before
+
+abbrev looped : tie.After-work-row Inv-loop μ-loop → tie.In-loop Inv-loop μ-loop
+looped c = c .before .before .before
+
+abbrev worked : tie.After-slice-known4 Inv-loop μ-loop → tie.After-work-row Inv-loop μ-loop
+worked c = c .before .before .before .before
 
 loop-holds : tie.Need-loop-holds Inv-loop μ-loop
-loop-holds c = all-start _ _ _ _ (c .before .before .before .pre)
+loop-holds c = all-start _ _ _ _ _ (c .before .before .before .before .pre)
 
 work-row-requires : tie.Need-work-row-requires Inv-loop μ-loop
 work-row-requires c κs =
-    let at-loop-test = c .before .before in
-    let at-loop = at-loop-test .before in
-    let start = at-loop .before .before .before .before in
-    all-ready _ _ _ _ _ _ (at-loop .loop .inv) (omega (arith, at-loop-test .loop-test .taken, start .pre .all-rows))
+    let test = c .before .before in
+    let a = start (test .before) .pre in
+    all-ready _ _ _ _ _ _ (test .before .loop .inv) (omega (arith, test .loop-test .taken, a .all-rows)) _ (a .linked)
 
 enum-known-tested : tie.Need-enum-known-tested Inv-loop μ-loop
 enum-known-tested c = search needs
 
 same-length : tie.Need-same-length Inv-loop μ-loop
 same-length c =
-    let at-5 = c .before .before .before .before .before in
-    let at-work-row = at-5 .before .before in
-    let at-loop = at-work-row .before .before .before .before in
-    at-work-row .work-row .kept .1 .1 .0 ∙ at-loop .loop .inv .card-length
+    let row = worked (c .before .before .before) in
+    row .work-row .kept .1 .1 .1 .0 ∙ looped row .before .loop .inv .card-length
 
 same-length-2 : tie.Need-same-length-2 Inv-loop μ-loop
 same-length-2 c =
-    let at-5 = c .before .before .before .before .before in
-    let at-work-row = at-5 .before .before in
-    let at-loop = at-work-row .before .before .before .before in
-    at-work-row .work-row .kept .1 .1 .1 .0 ∙ at-loop .loop .inv .sums-length
+    let row = worked (c .before .before .before) in
+    row .work-row .kept .1 .1 .1 .1 .0 ∙ looped row .before .loop .inv .sums-length
 
 returns : tie.Need-returns Inv-loop μ-loop
 returns c =
-    let at-tested = c .before in
-    let at-6 = at-tested .before .before .before .before .before in
-    let at-work-row = at-6 .before in
-    let at-loop-test = at-work-row .before .before .before in
-    let at-loop = at-loop-test .before in
-    let start = at-loop .before .before .before .before in
-    all-refused _ _ _ _ _ _ (at-loop .loop .inv) (omega (arith, at-loop-test .loop-test .taken, start .pre .all-rows)) _ _ _ _ (at-tested .tested .given .1)
-    (at-work-row .work-row .ensures)
+    let tested = c .before in
+    let row = worked (tested .before .before) in
+    let test = looped row in
+    all-refused _ _ _ _ _ _ (test .before .loop .inv) (omega (arith, test .loop-test .taken, start (test .before) .pre .all-rows)) _ _ _ _
+    (tested .tested .given .1) (row .work-row .ensures)
 
 enum-told : tie.Need-enum-told Inv-loop μ-loop
 enum-told c = search needs
@@ -62,13 +64,10 @@ loop-less c = omega arith
 
 loop-again : tie.Need-loop-again Inv-loop μ-loop
 loop-again c =
-    let at-5 = c .before .before .before .before .before in
-    let at-work-row = at-5 .before in
-    let at-loop-test = at-work-row .before .before .before in
-    let at-loop = at-loop-test .before in
-    let start = at-loop .before .before .before .before in
-    all-next _ _ _ _ _ _ (at-loop .loop .inv) (omega (arith, at-loop-test .loop-test .taken, start .pre .all-rows)) _ _ _ (c .enum-told .given .1)
-    (at-work-row .work-row .ensures)
+    let row = worked (c .before .before) in
+    let test = looped row in
+    all-next _ _ _ _ _ _ (test .before .loop .inv) (omega (arith, test .loop-test .taken, start (test .before) .pre .all-rows)) _ _ _
+    (c .enum-told .given .1) (row .work-row .ensures)
 
 same-length-3 : tie.Need-same-length-3 Inv-loop μ-loop
 same-length-3 c = c .before .loop .inv .card-length
@@ -77,7 +76,7 @@ same-length-4 : tie.Need-same-length-4 Inv-loop μ-loop
 same-length-4 c = c .before .loop .inv .sums-length
 
 returns-2 : tie.Need-returns-2 Inv-loop μ-loop
-returns-2 c = all-end _ _ _ _ _ _ (c .before .loop .inv) (omega (arith, c .loop-test .left, c .before .before .before .before .before .pre .all-rows))
+returns-2 c = all-end _ _ _ _ _ _ (c .before .loop .inv) (omega (arith, c .loop-test .left, start (c .before) .pre .all-rows))
 
 pub work-all-spec : {M : Type 1} → statement M
 work-all-spec =
