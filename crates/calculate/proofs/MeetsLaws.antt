@@ -1,20 +1,16 @@
--- What meets the conditions still does where the rows below have a lower pickup or, at the same pickups, a lesser setting; and where they
--- have the same pickups, the cause that no pickup fits is the same.
+-- What meets the conditions still does where the rows below have a lower pickup or, at the same pickups, a lesser setting.
 use mathlib.Core.Path.{_≡_, sym, ap, _∙_, subst}
 use Prim.Native.Nat.{ℕ, _≤_, _<_}
 use native.Mathlib.Nat.{mul-le-mul-right, le-of-eq}
 use native.Mathlib.Omega.{arith}
 use Rattle.layout.specs.View.{View, Settings}
-use Rattle.answers.specs.declared.Cause.{Cause}
 use Rattle.sides.specs.declared.Primary.{Primary}
-use Rattle.sides.specs.declared.Secondary.{Secondary}
 use Rattle.curve.specs.Curve.{timeOf}
 use Rattle.curve.proofs.CurveLaws.{time-rises}
 use Rattle.layout.specs.declared.Row.{Row}
 use Rattle.settle.specs.Conditions.{primaryOf, pickupAt, multipleAt, settingOf, fedMultiple, fedTime}
-use Rattle.settle.specs.Inequalities.{Feeding, LowerMet, PickupMet, Candidate, CauseIs, RunsAbove, Runs, CurveIs, TimeMet}
+use Rattle.settle.specs.Inequalities.{Feeding, LowerMet, PickupMet, RunsAbove, Runs, CurveIs, TimeMet}
 use Rattle.settle.specs.Inequalities.CurveIs.{OWN, FED, THERE}
-use Rattle.settle.specs.Inequalities.CauseIs.{RANGE, OWN-ZONE, BACKUP}
 
 -- a lower pickup below asks no more
 module _ (v : View) (k k′ : Settings) (i : ℕ) where
@@ -82,26 +78,3 @@ pub curve-not-runs : (v : View) (k : Settings) (i : ℕ) (I : Primary) {place : 
 curve-not-runs v k i I (OWN a b) r = omega (arith, r .own a)
 curve-not-runs v k i I (FED j u a b) r = omega (arith, r .above j (u .is-row) (u .feeding) .fed-runs a)
 curve-not-runs v k i I (THERE j u g a b) r = omega (arith, r .above j (u .is-row) (u .feeding) .own-runs a)
-
--- above fed rows with the same pickups the cause is the same
-lower-alike :
-    (v : View) (k k′ : Settings) (i : ℕ) → ((j : ℕ) → j < v .count → Feeding v i j → pickupAt v k j .0 ≡ pickupAt v k′ j .0) →
-    (I : Primary) → LowerMet v k i I → LowerMet v k′ i I
-lower-alike v k k′ i same I = lower-down v k′ k i I (λ j h f. le-of-eq (sym (same j h f)))
-
-module _ (v : View) (k k′ : Settings) (i : ℕ) (same : (j : ℕ) → j < v .count → Feeding v i j → pickupAt v k j .0 ≡ pickupAt v k′ j .0) where
-  back : (I : Primary) → LowerMet v k′ i I → LowerMet v k i I
-  back = lower-alike v k′ k i (λ j h f. sym (same j h f))
-
-  candidate-alike : (x : Secondary) → Candidate v k i x → Candidate v k′ i x
-  candidate-alike x m =
-      record {
-        available = m .available;
-        lower-met = lower-alike v k k′ i same _ (m .lower-met);
-        least = λ y a h. m .least y a (back _ h);
-      }
-
-  pub cause-alike : {why : Cause} → CauseIs v k i why → CauseIs v k′ i why
-  cause-alike (RANGE n) = RANGE (λ x a h. n x a (back _ h))
-  cause-alike (OWN-ZONE x m n) = OWN-ZONE x (candidate-alike x m) n
-  cause-alike (BACKUP x j m z u) = BACKUP x j (candidate-alike x m) z u

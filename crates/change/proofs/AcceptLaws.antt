@@ -64,7 +64,7 @@ module _ (l : List ℕ) (a : InRange l) (c : List ℕ) (j : ℕ) (h : j < rows l
   pub settled-fits : CardRowInRange (settingMost (rowAt l j .ratio .primary)) (cardRowAt c j)
   settled-fits =
       let b = a j h .bounded in
-      least-in-range (viewOf l) (cardRowAt c) j b (settled-least (viewOf l) (cardRowAt c) j (b .step-from) s)
+      least-in-range (viewOf l) (cardRowAt c) j b (settled-least (viewOf l) (cardRowAt c) j b s)
 
 module _ (l c₀ c : List ℕ) (x : Accepts l c₀ c) where
   pub accepted-room : rows l * columnCount ≤ length c₀

@@ -4,11 +4,13 @@
 --                     row that the source feeds; rows past it and off the path keep what they had; the count is that of the rows up to it
 --     visits-exactly  and the count is no other, whatever settings are said to be so worked out
 --     path-only       and there are no other such settings
---     path-least      no other settings that meet them up to that row have a lower pickup or a shorter delay in any row there
+--     path-least-pickups  no other pickups that meet P1 to P4 up to that row are lower in any row there
+--     path-least      no other settings that meet every condition up to that row have a lower pickup, a shorter delay or a lesser
+--                     multiplier in any row there
 --     path-exactly    it is done exactly when some settings are so worked out
 --     path-accepted   it is done where some settings meet every condition along the whole path
---     path-refused    any other is refused with 11, 12, 13 or 7 at the first row of the path that no pickup, or else no delay, fits, no
---                     row below it having stopped the climb
+--     path-refused    any other is refused with 11, 12, 13, 14 or 7 at the first row of the path that no pickup, or else no setting,
+--                     fits, no row below it having stopped the climb
 --     refused-none    refused, no row counts as worked out
 -- `replaced` is the definition that the public entry's contract cites (specs/Replace.antt).
 use mathlib.Core.Path.{_≡_, sym, _∙_, subst}
@@ -20,15 +22,15 @@ use Rattle.answers.specs.declared.Answer.the-variants.{Done}
 use Rattle.layout.specs.Card.{cardRowAt}
 use Rattle.layout.specs.List.{rows}
 use Rattle.layout.specs.View.{viewOf, Settings}
-use Rattle.settle.specs.Conditions.{pickupAt}
+use Rattle.settle.specs.Conditions.{pickupAt, settingOf}
 use Rattle.path.specs.Path.{Nth}
 use Rattle.path.proofs.OnPathLaws.{nth-one}
-use Rattle.change.specs.AnyCard.{MeetsBelow, PathRefused, WorkedTo, Visits}
+use Rattle.change.specs.AnyCard.{PickupsBelow, MeetsBelow, PathRefused, WorkedTo, Visits}
 use Rattle.change.specs.Gets.{made, Passes}
 use Rattle.change.specs.Replace.{replaced}
 use Rattle.change.proofs.KeptLaws.{refused-counts}
 use Rattle.change.proofs.PathEndLaws.{refused-not-done, is-row, Ended, ended}
-use Rattle.change.proofs.PathLeastLaws.{under}
+use Rattle.change.proofs.PathLeastLaws.{under, under-pickups}
 use Rattle.change.proofs.PathOneLaws.{never-refused, ended-not-refused, one-end, one-settings}
 
 module _ (l c : List ℕ) (place : ℕ) (row : List ℕ) (p : Passes l c place row) where
@@ -74,16 +76,23 @@ module _ (l c : List ℕ) (place : ℕ) (row : List ℕ) (p : Passes l c place r
       (last : ℕ) → WorkedTo (made l place row) (place - 1) c (cardRowAt (replaced l c place row .card)) last → (k : Settings) →
       MeetsBelow (made l place row) (place - 1) c k (last + 1) → (j : ℕ) → j ≤ last →
       (pickupAt (viewOf (made l place row)) (cardRowAt (replaced l c place row .card)) j .0 ≤ pickupAt (viewOf (made l place row)) k j .0) ×
-      (cardRowAt (replaced l c place row .card) j .delay ≤ k j .delay)
+      (settingOf (cardRowAt (replaced l c place row .card) j) ≤ settingOf (k j))
   path-least last w k m =
       under l′ (p .feeds) (place - 1) row-of-it c card k last w (subst (MeetsBelow l′ (place - 1) c k) (add-one last) m)
+
+  pub path-least-pickups :
+      (last : ℕ) → WorkedTo (made l place row) (place - 1) c (cardRowAt (replaced l c place row .card)) last → (k : Settings) →
+      PickupsBelow (made l place row) (place - 1) c k (last + 1) → (j : ℕ) → j ≤ last →
+      pickupAt (viewOf (made l place row)) (cardRowAt (replaced l c place row .card)) j .0 ≤ pickupAt (viewOf (made l place row)) k j .0
+  path-least-pickups last w k m =
+      under-pickups l′ (p .feeds) (place - 1) row-of-it c card k last w (subst (PickupsBelow l′ (place - 1) c k) (add-one last) m)
 
   path-ended : (k : Settings) (s : ℕ) → WorkedTo l′ (place - 1) c k s → replaced l c place row .answer ≡ Done
   path-ended k s w = by-cases (ended l c place row p)
     where
       by-cases : Ended l c place row p → replaced l c place row .answer ≡ Done
       by-cases (Ended.done d v) = d
-      by-cases (Ended.refused-by x d z) = absurd (ended-not-refused l′ (p .feeds) (place - 1) row-of-it c k s w z)
+      by-cases (Ended.refused-by x d z) = absurd (ended-not-refused l′ (p .feeds) (place - 1) row-of-it c (λ j h. p .in-range j h .bounded) k s w z)
 
   pub path-exactly :
       (replaced l c place row .answer ≡ Done) ↔ ((k : Settings) × (s : ℕ) × WorkedTo (made l place row) (place - 1) c k s)

@@ -73,7 +73,8 @@ module _ (l c : List ℕ) (place : ℕ) (row : List ℕ) where
       by-cases : Ended l c place row p → answer ≡ a
       by-cases (Ended.done d v) =
           absurd
-          (ended-not-refused l′ (p .feeds) (place - 1) (is-row (p .fits)) c (cardRowAt (replaced l c place row .card)) (v .last) (v .worked) z)
+          (ended-not-refused l′ (p .feeds) (place - 1) (is-row (p .fits)) c (λ j h. p .in-range j h .bounded) (cardRowAt (replaced l c place row .card)) (v .last)
+          (v .worked) z)
       by-cases (Ended.refused-by x d z′) = d ∙ same-refusal l′ (p .feeds) (place - 1) (is-row (p .fits)) c (λ j h. p .in-range j h .bounded) z′ z
 
   get : {a : Answer} → ReplacementGets l c place row a → answer ≡ a

@@ -58,7 +58,7 @@ module _ (l c : List ℕ) (i : ℕ) (row l′ : List ℕ) (el : l′ ≡ putList
       let count : n ≡ length (reach (putList l i row) i c) = b .1 ∙ ap (λ (l : List ℕ). length (reach l i c)) el in
       rw (e, worked ∙ b .0) (record { answer = refl; count = count; list = el; card = refl })
 
-  -- refused: the old row, which was kept aside in 20 numbers, goes back
+  -- refused: the old row, which was kept aside in 22 numbers, goes back
   pub exchange-refused :
       (a : Answer) (y old l″ : List ℕ) → x ≡ HowFar.Refused a → PutReady l i row → length y ≡ fieldCount →
       old ≡ putList y 0 (take (i * fieldCount + fieldCount - i * fieldCount) (drop (i * fieldCount) l)) → l″ ≡ putList l′ i old → Exchanged
@@ -74,7 +74,7 @@ module _ (l c : List ℕ) (i : ℕ) (row l′ : List ℕ) (el : l′ ≡ putList
         card = b .1;
       })
     where
-      -- 20 numbers written over 20
+      -- 22 numbers written over 22
       kept :
           (y : List ℕ) → length y ≡ fieldCount →
           putList y 0 (take (i * fieldCount + fieldCount - i * fieldCount) (drop (i * fieldCount) l)) ≡ take fieldCount (drop (i * fieldCount) l)

@@ -19,7 +19,7 @@ use Rattle.rowwise.specs.WorkOut.{Worked, onPassed, workOut}
 use Rattle.path.specs.CardTest.{CardGets}
 use Rattle.path.specs.Reach.{reach}
 use Rattle.path.proofs.CardTestLaws.{get-card}
-use Rattle.change.specs.AnyCard.{PathRefused, NO-PICKUP, DELAY, Visits}
+use Rattle.change.specs.AnyCard.{PathRefused, NO-PICKUP, CURVE, DELAY, Visits}
 use Rattle.change.specs.Gets.{made, Passes}
 use Rattle.change.specs.Replace.{Replaced, reworked, outcome, replaced}
 use Rattle.change.proofs.ReachedLaws.{Climbed}
@@ -30,7 +30,8 @@ use Rattle.change.proofs.SeriesLaws.{replaced-edited}
 -- a refusal along the path is no Done
 pub refused-not-done : {l : List ℕ} {i : ℕ} {c : List ℕ} {x : Answer} → PathRefused l i c x → x ≡ Done → ⊥
 refused-not-done (NO-PICKUP k j why u n) e = unsettled-not-done e
-refused-not-done (DELAY k j u p n) e = unsettled-not-done e
+refused-not-done (CURVE k j x place u p n) e = unsettled-not-done e
+refused-not-done (DELAY k j x u p r n) e = unsettled-not-done e
 
 module _ (l c : List ℕ) (place : ℕ) (row : List ℕ) (p : Passes l c place row) where
   abbrev l′ : List ℕ

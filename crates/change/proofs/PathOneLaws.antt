@@ -8,30 +8,38 @@ use Prim.Native.Nat.{ℕ, suc, _+_, _≤_, _<_}
 use native.Mathlib.Nat.{eq-or-lt-of-le, le-antisymm}
 use native.Mathlib.Omega.{arith}
 use borrow.Author.Tests.{eq-eqb}
-use Rattle.fold.proofs.BoolLaws.{passes-or-fails, lt-or-le}
+use Rattle.fold.proofs.BoolLaws.{passes-or-fails, lt-or-le, zero-not-one}
 use Rattle.answers.specs.declared.Answer.{Answer}
 use Rattle.answers.specs.declared.Answer.the-variants.{Unsettled}
-use Rattle.answers.specs.declared.Cause.{Cause}
-use Rattle.answers.specs.declared.Reason.the-variants.{Pickup, Delay}
+use Rattle.answers.specs.declared.Reason.{Reason}
+use Rattle.answers.specs.declared.Reason.the-variants.{Pickup, Curve, Delay}
 use Rattle.layout.specs.Fields.{atFeeder}
 use Rattle.layout.specs.List.{rows, field, rowAt}
 use Rattle.layout.specs.Range.{AllBounded}
 use Rattle.layout.specs.View.{viewOf, Settings}
 use Rattle.rows.specs.InRange.{Feeds}
-use Rattle.settle.proofs.CauseTheorems.{cause-no-pickup, cause-one}
-use Rattle.settle.proofs.SameLaws.{fed-below}
-use Rattle.settle.specs.Conditions.{primaryOf, pickupAt}
-use Rattle.settle.specs.Inequalities.{Feeding, SomePickup, NoDelay, CauseIs}
-use Rattle.calculate.proofs.MeetsLaws.{pickup-down, cause-alike}
+use Rattle.settle.specs.declared.Outcome.{Outcome}
+use Rattle.settle.specs.declared.Settled.the-variants.{Set, Unset}
+use Rattle.settle.specs.Settle.{settled}
+use Rattle.settle.proofs.CauseTheorems.{cause-no-pickup}
+use Rattle.settle.proofs.SameLaws.{settled-same, fed-below}
+use Rattle.settle.proofs.SettledTheorems.{least-settled, no-pickup-exactly, no-curve-exactly, no-delay-exactly}
+use Rattle.calculate.proofs.MeetsLaws.{curve-not-runs}
 use Rattle.path.specs.Path.{onPath}
 use Rattle.path.proofs.OnPathLaws.{on-path-exactly, off-path-exactly}
 use Rattle.path.proofs.PathLaws.{source-last, on-within}
-use Rattle.change.specs.AnyCard.{MeetsBelow, GoesOn, PathUpTo, PathRefused, NO-PICKUP, DELAY, WorkedTo}
-use Rattle.change.proofs.PathLeastLaws.{LeastBelow, up-to, worked, fewer, met-least}
-use Rattle.change.proofs.PathLeastLaws.{on, no-higher, some-pickup, some-delay, same-below}
+use Rattle.change.specs.AnyCard.{MeetsBelow, GoesOn, PathUpTo, PathRefused, NO-PICKUP, CURVE, DELAY, WorkedTo}
+use Rattle.change.proofs.PathLeastLaws.{LeastBelow, up-to, worked, fewer, met-pickups, on, alike, some-pickup, some-time, same-below}
 
 in-order : {P : Type 0} (a b : ℕ) → (a < b → P) → (a ≡ b → P) → (b < a → P) → P
 in-order a b f g h = ⊎-elim f (λ (q : b ≤ a). ⊎-elim (λ (e : b ≡ a). g (sym e)) h (eq-or-lt-of-le q)) (lt-or-le a b)
+
+-- no outcome is two things at once
+never-set : {why : Reason} {o : Outcome} → Unset why ≡ Set o → ⊥
+never-set e = zero-not-one cc
+
+same-reason : {why why′ : Reason} → Unset why ≡ Unset why′ → why ≡ why′
+same-reason e = cc
 
 module _ (l : List ℕ) (b : Feeds l) (i : ℕ) (h : i < rows l) (c : List ℕ) where
   row-within : {k : Settings} {j : ℕ} → PathUpTo l i c k j → j < rows l
@@ -57,20 +65,77 @@ module _ (l : List ℕ) (b : Feeds l) (i : ℕ) (h : i < rows l) (c : List ℕ) 
     within-end =
         ⊎-elim (λ lt. absurd (no-further k k′ s j w (up-to u) lt (row-within u) (u .went-on s (w .on-path) lt))) (λ (le : j ≤ s). le) (lt-or-le s j)
 
-    met-there : MeetsBelow l i c k (suc j)
-    met-there = met-least (fewer (suc j) (suc s) (omega (arith, within-end)) (worked w))
-
-  -- settings that meet every condition are never refused; nor are those of a climb that ended
+  -- settings that meet every condition are never refused
   pub never-refused : (k′ : Settings) → MeetsBelow l i c k′ (rows l) → {x : Answer} → PathRefused l i c x → ⊥
   never-refused k′ m (NO-PICKUP k j why u n) =
-      some-pickup l b i h c k j (up-to u) k′ (rows l) (omega arith) m (u .on-path) (row-within u) (cause-no-pickup (viewOf l) k j n)
-  never-refused k′ m (DELAY k j u p n) = some-delay l b i h c k j (up-to u) k′ (rows l) (omega arith) m (u .on-path) (row-within u) n
+      some-pickup l b i h c k j (up-to u) k′ (rows l) (omega arith) (met-pickups m) (u .on-path) (row-within u) (cause-no-pickup (viewOf l) k j n)
+  never-refused k′ m (CURVE k j y place u p n) =
+      curve-not-runs (viewOf l) k j _ n (some-time l b i h c k j (up-to u) k′ (rows l) (omega arith) m (u .on-path) (row-within u) y p .runs)
+  never-refused k′ m (DELAY k j y u p r n) = n _ (some-time l b i h c k j (up-to u) k′ (rows l) (omega arith) m (u .on-path) (row-within u) y p)
 
-  pub ended-not-refused : (k : Settings) (s : ℕ) → WorkedTo l i c k s → {x : Answer} → PathRefused l i c x → ⊥
-  ended-not-refused k s w (NO-PICKUP k′ j why u n) =
-      some-pickup l b i h c k′ j (up-to u) k (suc j) (row-within u) (met-there k k′ s j w u) (u .on-path) (omega arith) (cause-no-pickup (viewOf l) k′ j n)
-  ended-not-refused k s w (DELAY k′ j u p n) =
-      some-delay l b i h c k′ j (up-to u) k (suc j) (row-within u) (met-there k k′ s j w u) (u .on-path) (omega arith) n
+  -- a refusal says that the row that is next is not settled, and why
+  record Unsettles (x : Answer) : Type 0 where
+    settings : Settings
+    row : ℕ
+    why : Reason
+    next : PathUpTo l i c settings row
+    unset : settled (viewOf l) settings row ≡ Unset why
+    answer : x ≡ Unsettled (row + 1) why
+
+  unsettles : AllBounded (viewOf l) → {x : Answer} → PathRefused l i c x → Unsettles x
+  unsettles a (NO-PICKUP k j why u n) =
+      record {
+        settings = k;
+        row = j;
+        why = Pickup why;
+        next = u;
+        unset = no-pickup-exactly (viewOf l) k j (a j (row-within u)) why .1 n;
+        answer = refl;
+      }
+  unsettles a (CURVE k j y place u p n) =
+      record {
+        settings = k;
+        row = j;
+        why = Curve place;
+        next = u;
+        unset = no-curve-exactly (viewOf l) k j (a j (row-within u)) place .1 (y, p, n);
+        answer = refl;
+      }
+  unsettles a (DELAY k j y u p r n) =
+      record {
+        settings = k;
+        row = j;
+        why = Delay;
+        next = u;
+        unset = no-delay-exactly (viewOf l) k j (a j (row-within u)) .1 (y, p, r, n);
+        answer = refl;
+      }
+
+  -- two settings that are least below row j settle it alike: its fed rows stand alike in both
+  settles-alike : (k k′ : Settings) (j : ℕ) → j < rows l → LeastBelow l i c k j → LeastBelow l i c k′ j → settled (viewOf l) k j ≡ settled (viewOf l) k′ j
+  settles-alike k k′ j within u u′ =
+      settled-same (viewOf l) (viewOf l) k k′ j refl refl (λ x g. refl) (λ x g f. refl)
+      (λ x g f.
+      ⊎-elim
+      (λ (o : onPath l i x ≡ true).
+      same-below l b i h c k k′ j (omega arith) u u′ x (on-path-exactly l b i x h .0 o) (fed-below l b j x g f))
+      (λ (o : onPath l i x ≡ false). alike l b i h c k k′ (u .off-path) (u′ .off-path) x g o)
+      (passes-or-fails (onPath l i x)))
+
+  -- where a row is not settled in k, it is not at its least settings in k′
+  not-least :
+      AllBounded (viewOf l) → (k k′ : Settings) (j : ℕ) {why : Reason} → PathUpTo l i c k j → settled (viewOf l) k j ≡ Unset why →
+      LeastBelow l i c k′ (suc j) → ⊥
+  not-least a k k′ j u e u′ =
+      let s = least-settled (viewOf l) k′ j (a j (row-within u)) (u′ .least j (u .on-path) (omega arith)) in
+      never-set (sym e ∙ settles-alike k k′ j (row-within u) (up-to u) (fewer j (suc j) (omega arith) u′) ∙ s .settles)
+
+  -- nor is a climb that ended ever refused
+  pub ended-not-refused : AllBounded (viewOf l) → (k : Settings) (s : ℕ) → WorkedTo l i c k s → {x : Answer} → PathRefused l i c x → ⊥
+  ended-not-refused a k s w z =
+      let r = unsettles a z in
+      not-least a (r .settings) k (r .row) (r .next) (r .unset)
+      (fewer (suc (r .row)) (suc s) (omega (arith, within-end k (r .settings) s (r .row) w (r .next))) (worked w))
 
   -- it ends at one row only
   pub one-end : (k k′ : Settings) (s s′ : ℕ) → WorkedTo l i c k s → WorkedTo l i c k′ s′ → s ≡ s′
@@ -98,59 +163,19 @@ module _ (l : List ℕ) (b : Feeds l) (i : ℕ) (h : i < rows l) (c : List ℕ) 
       (λ (o : onPath l i j ≡ false). let n = off-path-exactly l b i j h .0 o in w .off-path j g n ∙ sym (w′ .off-path j g n))
       (passes-or-fails (onPath l i j))
 
-  -- two refusals: the one that is named first in k would fit in k′
-  module _ (k k′ : Settings) (j j′ : ℕ) (u : PathUpTo l i c k j) (u′ : PathUpTo l i c k′ j′) where
-    pickup-later : {why : Cause} → j < j′ → CauseIs (viewOf l) k j why → ⊥
-    pickup-later g n =
-        some-pickup l b i h c k j (up-to u) k′ (suc j) (row-within u) (met-least (fewer (suc j) j′ g (up-to u′))) (u .on-path) (omega arith)
-        (cause-no-pickup (viewOf l) k j n)
-
-    delay-later : j < j′ → NoDelay (viewOf l) k j → ⊥
-    delay-later g = some-delay l b i h c k j (up-to u) k′ (suc j) (row-within u) (met-least (fewer (suc j) j′ g (up-to u′))) (u .on-path) (omega arith)
-
-    -- at the same row the rows that it feeds have the same pickups, so a pickup fits both or neither
-    no-higher-there : j ≡ j′ → (x : ℕ) → x < rows l → Feeding (viewOf l) j x → pickupAt (viewOf l) k x .0 ≤ pickupAt (viewOf l) k′ x .0
-    no-higher-there e x g f =
-        no-higher l b i h c k j (up-to u) k′ j (let w = row-within u in omega arith) (met-least (fewer j j′ (omega arith) (up-to u′))) (omega arith) x
-        (fed-below l b j x g (eq-eqb _ _ f))
-
-    pickup-there : {why : Cause} → j ≡ j′ → CauseIs (viewOf l) k j why → SomePickup (viewOf l) k′ j′ → ⊥
-    pickup-there e n p =
-        cause-no-pickup (viewOf l) k j n (p .0) (rw e (p .1))
-        (pickup-down (viewOf l) k k′ j (primaryOf (rowAt l j) (p .0)) (no-higher-there e) (rw e (p .2)))
-
-  -- and where none fits, the cause is the same
-  same-cause :
-      AllBounded (viewOf l) → (k k′ : Settings) (j : ℕ) → PathUpTo l i c k j → PathUpTo l i c k′ j → {why why′ : Cause} → CauseIs (viewOf l) k j why →
-      CauseIs (viewOf l) k′ j why′ → why ≡ why′
-  same-cause a k k′ j u u′ n n′ =
-      cause-one (viewOf l) k′ j (a j (row-within u) .step-from)
-      (cause-alike (viewOf l) k k′ j
-      (λ x g f.
-      le-antisymm (no-higher-there k k′ j j u u′ refl x g f) (no-higher-there k′ k j j u′ u refl x g f))
-      n)
-      n′
-
+  -- there is one refusal only: of two, the one at a lower row would be at its least settings in the other
   pub same-refusal : AllBounded (viewOf l) → {x x′ : Answer} → PathRefused l i c x → PathRefused l i c x′ → x ≡ x′
-  same-refusal a (NO-PICKUP k j why u n) (NO-PICKUP k′ j′ why′ u′ n′) =
-      in-order j j′
-      (λ g. absurd (pickup-later k k′ j j′ u u′ g n))
+  same-refusal a z z′ =
+      let r = unsettles a z in
+      let r′ = unsettles a z′ in
+      r .answer ∙
+      in-order (r .row) (r′ .row)
+      (λ g. absurd (not-least a (r .settings) (r′ .settings) (r .row) (r .next) (r .unset) (fewer (suc (r .row)) (r′ .row) g (up-to (r′ .next)))))
       (λ e.
-      let same = same-cause a k k′ j u (rw e u′) n (rw e n′) in
-      λ t. Unsettled (e t + 1) (Pickup (same t)))
-      (λ g. absurd (pickup-later k′ k j′ j u′ u g n′))
-  same-refusal a (DELAY k j u p n) (DELAY k′ j′ u′ p′ n′) =
-      in-order j j′
-      (λ g. absurd (delay-later k k′ j j′ u u′ g n))
-      (λ e. ap (λ (j : ℕ). Unsettled (j + 1) Delay) e)
-      (λ g. absurd (delay-later k′ k j′ j u′ u g n′))
-  same-refusal a (NO-PICKUP k j why u n) (DELAY k′ j′ u′ p′ n′) =
-      in-order j j′
-      (λ g. absurd (pickup-later k k′ j j′ u u′ g n))
-      (λ e. absurd (pickup-there k k′ j j′ u u′ e n p′))
-      (λ g. absurd (delay-later k′ k j′ j u′ u g n′))
-  same-refusal a (DELAY k j u p n) (NO-PICKUP k′ j′ why′ u′ n′) =
-      in-order j j′
-      (λ g. absurd (delay-later k k′ j j′ u u′ g n))
-      (λ e. absurd (pickup-there k′ k j′ j u′ u (sym e) n′ p))
-      (λ g. absurd (pickup-later k′ k j′ j u′ u g n′))
+      let next′ : PathUpTo l i c (r′ .settings) (r .row) = rw e (r′ .next) in
+      let unset′ : settled (viewOf l) (r′ .settings) (r .row) ≡ Unset (r′ .why) = rw e (r′ .unset) in
+      let same = same-reason
+      (sym (r .unset) ∙ settles-alike (r .settings) (r′ .settings) (r .row) (row-within (r .next)) (up-to (r .next)) (up-to next′) ∙ unset′) in
+      λ t. Unsettled (e t + 1) (same t))
+      (λ g. absurd (not-least a (r′ .settings) (r .settings) (r′ .row) (r′ .next) (r′ .unset) (fewer (suc (r′ .row)) (r .row) g (up-to (r .next))))) ∙
+      sym (r′ .answer)

@@ -12,7 +12,7 @@ use Rattle.fold.proofs.FoldLaws.{below-cases}
 use Rattle.answers.specs.declared.Answer.{Answer}
 use Rattle.answers.specs.declared.Answer.the-variants.{Unsettled}
 use Rattle.answers.specs.declared.Reason.{Reason}
-use Rattle.answers.specs.declared.Reason.the-variants.{Pickup, Delay}
+use Rattle.answers.specs.declared.Reason.the-variants.{Pickup, Curve, Delay}
 use Rattle.layout.specs.Card.{cardRowAt, putCardRow}
 use Rattle.layout.specs.Counts.{columnCount}
 use Rattle.layout.specs.Fields.{atFeeder}
@@ -28,12 +28,12 @@ use Rattle.settle.specs.Inequalities.{LeastRow}
 use Rattle.settle.specs.Settle.{shown, settled}
 use Rattle.settle.proofs.SameLaws.{fed-below}
 use Rattle.rowwise.specs.WorkOut.{Worked, finished, refused}
-use Rattle.settle.proofs.SettledTheorems.{settled-least, no-pickup-exactly, no-delay-exactly}
+use Rattle.settle.proofs.SettledTheorems.{settled-least, no-pickup-exactly, no-curve-exactly, no-delay-exactly}
 use Rattle.calculate.proofs.SettledLaws.{Settles}
 use Rattle.path.specs.Path.{OnPath, Nth, onPath}
 use Rattle.path.proofs.OnPathLaws.{on-path-exactly, off-path-exactly}
 use Rattle.path.proofs.PathLaws.{Climbs, fed-climbs, on-fed, on-self, off-below}
-use Rattle.change.specs.AnyCard.{GoesOn, PathUpTo, PathRefused, NO-PICKUP, DELAY, WorkedTo}
+use Rattle.change.specs.AnyCard.{GoesOn, PathUpTo, PathRefused, NO-PICKUP, CURVE, DELAY, WorkedTo}
 use Rattle.change.proofs.SkipLaws.{put-settled, put-settles}
 
 -- row x is the next of the path, on the card c: no row below it stopped the climb, and it and those above it are as found
@@ -63,7 +63,7 @@ module _ (l : List ℕ) (a : AllBounded (viewOf l)) (b : Feeds l) (i : ℕ) (h :
     on-next = r .left x (omega arith) ∙ on-self l b x (r .within)
 
     least : (c′ : List ℕ) (j : ℕ) → j ≤ x → Settles l c′ j → LeastRow (viewOf l) (cardRowAt c′) j
-    least c′ j g = settled-least (viewOf l) (cardRowAt c′) j (a j (omega (arith, r .within)) .step-from)
+    least c′ j g = settled-least (viewOf l) (cardRowAt c′) j (a j (omega (arith, r .within)))
 
     up-to : PathUpTo l i c₀ (cardRowAt c) x
     up-to =
@@ -81,10 +81,13 @@ module _ (l : List ℕ) (a : AllBounded (viewOf l)) (b : Feeds l) (i : ℕ) (h :
         by-reason : (why : Reason) → settled (viewOf l) (cardRowAt c) x ≡ Unset why → PathRefused l i c₀ (Unsettled (x + 1) why)
         by-reason (Pickup why) e =
             NO-PICKUP (cardRowAt c) x why up-to
-            (no-pickup-exactly (viewOf l) (cardRowAt c) x (a x (r .within) .step-from) why .0 e)
+            (no-pickup-exactly (viewOf l) (cardRowAt c) x (a x (r .within)) why .0 e)
+        by-reason (Curve place) e =
+            let d = no-curve-exactly (viewOf l) (cardRowAt c) x (a x (r .within)) place .0 e in
+            CURVE (cardRowAt c) x (d .0) place up-to (d .1) (d .2)
         by-reason Delay e =
-            let d = no-delay-exactly (viewOf l) (cardRowAt c) x (a x (r .within) .step-from) .0 e in
-            DELAY (cardRowAt c) x up-to (d .0) (d .1)
+            let d = no-delay-exactly (viewOf l) (cardRowAt c) x (a x (r .within)) .0 e in
+            DELAY (cardRowAt c) x (d .0) up-to (d .1) (d .2) (d .3)
 
     -- row x is settled, and put in
     module _ (o : Outcome) (e : settled (viewOf l) (cardRowAt c) x ≡ Set o) where

@@ -1,6 +1,6 @@
--- [01 §4], [02 §2, §8] Which number and place a replacement gets, for any list, card, place and new row: "2, 3, 10, then 4 and 5 over the
--- list as it would be, then 9 over all rows ascending, then 6 and 7 along the path", with 11, 12 and 13 where 6 stood, as far as the
--- climb goes. Each answer stands with all that comes before it in this order absent. Rows and fields are counted from 0, places in
+-- [01 §4], [02 §2, §3, §8] Which number and place a replacement gets, for any list, card, place and new row: "2, 3, 10, then 4 and 5 over the
+-- list as it would be, then 9 over all rows ascending, then 6 and 7 along the path", with 11, 12 and 13 where 6 stood and 14 before 7, as
+-- far as the climb goes. Each answer stands with all that comes before it in this order absent. Rows and fields are counted from 0, places in
 -- answers from 1. Definitions only.
 use mathlib.Core.List.{List}
 use Prim.Native.Nat.{ℕ, _+_, _-_}

@@ -1,6 +1,6 @@
 -- [01 §4], [02 §2, §8] The replacement of one row of a list lent as numbers, on a card lent as numbers: the answer, the list and the
 -- card afterwards, and how many rows were worked out. The order is 2, 3, 10, then 4 and 5 over the list as it would be, then 9 over
--- all rows, then 11, 12 or 13 before 7 along the path as far as the change goes, the other card rows read as they are found. A
+-- all rows, then 11, 12 or 13 before 14 and 14 before 7 along the path as far as the change goes, the other card rows read as they are found. A
 -- refusal leaves list and card, and counts no row. Definitions only.
 use mathlib.Core.List.{List}
 use Prim.Native.Nat.{ℕ, _-_}

@@ -24,7 +24,7 @@ pub struct Replacement {
     pub rows: u64,
 }
 
-// Row i of the list is new: 4, 5, 9, then 11, 12 or 13 before 7 along the rows worked out.
+// Row i of the list is new: 4, 5, 9, then 11, 12 or 13 before 14 and 14 before 7 along the rows worked out.
 fn rework(list: &[u64], i: usize, card: &mut [u64]) -> HowFar
     requires { ⌜ ReworkReady (now list) i (now card) ⌝ }
     ensures { λ f. ⌜ Reworked (reach (now (list .entry)) i (now (card .entry))) (reworked (now (list .entry)) i (now (card .entry)))

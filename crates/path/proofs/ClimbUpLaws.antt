@@ -35,8 +35,8 @@ use Rattle.rows.specs.InRange.{Feeds}
 use Rattle.path.proofs.ReachLaws.{stops-exactly, get-reached, reaches-from}
 use Rattle.path.proofs.ClimbLaws.{off, climb-works, Comes}
 
-module _ {l : List ℕ} {i : ℕ} {c s : List ℕ} {r : ClimbReady l i c s} {t : Tested} {c′ s′ : List ℕ} {z : Stepped (step l i c s) t c′ s′}
-    (p : Comes l i c s r t c′ s′ z) (feeding : Bool) where
+module _ {l links : List ℕ} {i : ℕ} {c s : List ℕ} {r : ClimbReady l links i c s} {t : Tested} {c′ s′ : List ℕ}
+    {z : Stepped (step l i c s) t c′ s′} (p : Comes l links i c s r t c′ s′ z) (feeding : Bool) where
   abbrev feeds : Feeds l
   feeds = r .working .feeds
 
@@ -49,7 +49,7 @@ module _ {l : List ℕ} {i : ℕ} {c s : List ℕ} {r : ClimbReady l i c s} {t :
     -- whether it is a feeding row that comes out as it was
     stops : b ≡ (feeding && sameCardRow (cardRowAt c i) (shown (p .outcome)))
     stops =
-        let own = putCardRow-own c i (shown (p .outcome)) (climb-works l i c s r .in-card) in
+        let own = putCardRow-own c i (shown (p .outcome)) (climb-works l links i c s r .in-card) in
         eb ∙ ap₂ (λ (x y : CardRow). feeding && sameCardRow x y) eo (ap (λ (x : List ℕ). cardRowAt x i) (p .card) ∙ own)
 
     pub climb-stops : b ≡ true → WorkedOut l (reachFrom l feeding (pathOf l i) c) c (Rows 1) c′
@@ -82,13 +82,14 @@ module _ {l : List ℕ} {i : ℕ} {c s : List ℕ} {r : ClimbReady l i c s} {t :
             on-fed l feeds i j (r .is-row) fed ∙
             rw (← ef, o) (or-true (eqb j i))
 
-        pub climb-on : ClimbReady l (f - 1) c′ s′
+        pub climb-on : ClimbReady l links (f - 1) c′ s′
         climb-on =
             let k = fed-climbs l feeds i (r .is-row) fed in
-            subst (λ (x : List ℕ). ClimbReady l (f - 1) c′ x) (sym (p .sums))
-            (subst (λ (x : List ℕ). ClimbReady l (f - 1) x (pushed l (rowAt l i) (shown (p .outcome)) s)) (sym (p .card))
+            subst (λ (x : List ℕ). ClimbReady l links (f - 1) c′ x) (sym (p .sums))
+            (subst (λ (x : List ℕ). ClimbReady l links (f - 1) x (pushed (rowAt l i) (shown (p .outcome)) s)) (sym (p .card))
             (record {
               is-row = rw ef (k .within);
+              linked = r .linked;
               working =
                   work-next l (off l i) (onPath l i) c s (r .working) i (r .is-row) (rw (on-self l feeds i (r .is-row)))
                   (off l (f - 1)) off-next (onPath l (f - 1)) on-next (shown (p .outcome)) (p .bounded);
@@ -118,8 +119,9 @@ module _ {l : List ℕ} {i : ℕ} {c s : List ℕ} {r : ClimbReady l i c s} {t :
 
         -- a refusal above: the row's old numbers go back
         pub climb-back :
-            (x : HowFar) (a : Answer) (c″ c‴ : List ℕ) → WorkedOut l (reachFrom l true (pathOf l (f - 1)) c′) c′ x c″ → x ≡ HowFar.Refused a →
-            c‴ ≡ putCardRow c″ i old → WorkedOut l (reachFrom l feeding (pathOf l i) c) c (HowFar.Refused a) c‴
+            (x : HowFar) (a : Answer) (c″ c‴ : List ℕ) → WorkedOut l (reachFrom l true (pathOf l (f - 1)) c′) c′ x c″ →
+            x ≡ HowFar.Refused a → c‴ ≡ putCardRow c″ i old →
+            WorkedOut l (reachFrom l feeding (pathOf l i) c) c (HowFar.Refused a) c‴
         unfolding farOf cardOf
         climb-back x a c″ c‴ w g b‴ =
             let b = reworked-refused _ _ c′ x c″ w a g in
@@ -127,7 +129,7 @@ module _ {l : List ℕ} {i : ℕ} {c s : List ℕ} {r : ClimbReady l i c s} {t :
             (record {
               far = refl;
               card = b‴ ∙ ap₂ (λ (x : List ℕ) (o : CardRow). putCardRow x i o) (b .1 ∙ p .card) eo ∙ putCardRow-back c i
-                  (climb-works l i c s r .in-card) (shown (p .outcome));
+                  (climb-works l links i c s r .in-card) (shown (p .outcome));
             })
 
         pub climb-done :
@@ -140,7 +142,9 @@ module _ {l : List ℕ} {i : ℕ} {c s : List ℕ} {r : ClimbReady l i c s} {t :
             rw (climb-above ∙ b .0, climb-rows) (record { far = ap Rows count; card = refl })
 
         -- a path has no more rows than the list
-        pub climb-counts : (x : HowFar) (m : ℕ) (c″ : List ℕ) → WorkedOut l (reachFrom l true (pathOf l (f - 1)) c′) c′ x c″ → x ≡ Rows m → m ≤ rowsMost
+        pub climb-counts :
+            (x : HowFar) (m : ℕ) (c″ : List ℕ) → WorkedOut l (reachFrom l true (pathOf l (f - 1)) c′) c′ x c″ → x ≡ Rows m →
+            m ≤ rowsMost
         climb-counts x m c″ w g =
             let b = reworked-done _ _ c′ x c″ w m g in
             omega (arith, b .1, reach-length l true (pathOf l (f - 1)) c′, path-length l (f - 1), r .working .rows-to)

@@ -33,21 +33,20 @@ working-same l done done′ matters matters′ c s e f w =
           same-fed
           (sumTo-same _ _ (rows l) (λ j h. rw (e j h)))
           (maxTo-same _ _ (rows l) (λ j h. rw (e j h)))
-          (maxTo-same _ _ (rows l) (λ j h. rw (e j h)))
           (maxTo-same _ _ (rows l) (λ j h. rw (e j h)));
     }
 
 module _ (l : List ℕ) (done matters : ℕ → Bool) (c s : List ℕ) (w : Working l done matters c s) (i : ℕ) (h : i < rows l)
     (to : CardBounded (rowAt l i) (cardRowAt c i)) where
-  pub push-ready : (1 ≤ rowAt l i .feeder → matters (rowAt l i .feeder - 1) ≡ true) → PushReady l (rowAt l i) (cardRowAt c i) s
+  pub push-ready : (1 ≤ rowAt l i .feeder → matters (rowAt l i .feeder - 1) ≡ true) → PushReady (rowAt l i) (cardRowAt c i) s
   push-ready f =
       record { bounded = w .in-range i h .bounded; settings = to; feeder = has-feeder l done matters c s w i h f }
 
   -- the settings found are those that stand there
   pub push-next :
       done i ≡ false → (done′ : ℕ → Bool) → ((j : ℕ) → done′ j ≡ (done j || eqb j i)) →
-      Working l done′ matters c (pushed l (rowAt l i) (cardRowAt c i) s)
+      Working l done′ matters c (pushed (rowAt l i) (cardRowAt c i) s)
   push-next new done′ next =
-      subst (λ (x : List ℕ). Working l done′ matters x (pushed l (rowAt l i) (cardRowAt c i) s))
+      subst (λ (x : List ℕ). Working l done′ matters x (pushed (rowAt l i) (cardRowAt c i) s))
       (putCardRow-stands c i)
       (work-next l done matters c s w i h new done′ next matters (λ j m. m) (cardRowAt c i) to)

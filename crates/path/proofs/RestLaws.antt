@@ -9,11 +9,17 @@ use lib.Dec.{ltb, eqb}
 use lib.ListN.{length}
 use borrow.Author.Tests.{lt-ltb, le-ltb, ltb-true, eqb-true, eqb-false, eq-eqb}
 use Rattle.fold.proofs.BoolLaws.{passes-or-fails, same-test, not-both}
+use Rattle.curve.specs.Curve.{settingTo}
+use Rattle.curve.proofs.CurveLaws.{definite-setting, curve-setting}
+use Rattle.layout.specs.declared.CardRow.{CardRow}
 use Rattle.layout.specs.Card.{cardRowAt}
 use Rattle.layout.specs.List.{rows, rowAt}
+use Rattle.layout.specs.Range.{CardRowInRange}
 use Rattle.rows.specs.InRange.{Feeds}
 use Rattle.rows.proofs.InRangeLaws.{passed-feeds}
+use Rattle.settle.specs.Conditions.{settingOf}
 use Rattle.settle.specs.Fed.{CardBounded}
+use Rattle.settle.proofs.TimeLaws.{by-law, is-curve, no-curve}
 use Rattle.rowwise.specs.Sums.{pushed}
 use Rattle.rowwise.proofs.StepLaws.{pushed-length}
 use Rattle.rowwise.specs.Working.{Working, everyRow}
@@ -23,6 +29,14 @@ use Rattle.path.specs.Ready.{FoundReady, RestReady}
 use Rattle.path.proofs.PathLaws.{onFrom, on-from, on-next, on-self, off-before, above-above}
 use Rattle.path.proofs.PushLaws.{working-same, push-ready, push-next}
 use Rattle.path.proofs.CardTestLaws.{lent-other, card-passed}
+
+-- [02 §3] what a card row in range sets is in range for its law: a curve's multiplier, or a delay
+card-setting : {most : ℕ} (s : CardRow) → CardRowInRange most s → settingOf s ≤ settingTo (s .law)
+unfolding settingOf
+card-setting s f =
+    by-law (s .law)
+    (λ e. rw (no-curve (s .law) e) (rw e (omega (arith, definite-setting .1, f .delay-to))))
+    (λ n. rw (is-curve (s .law) n) (omega (arith, curve-setting (s .law) n .1, f .multiplier-to)))
 
 -- row k is below j and off the path of row i
 abbrev pub rest : List ℕ → ℕ → ℕ → ℕ → Bool
@@ -68,7 +82,8 @@ module _ (l : List ℕ) (i : ℕ) (c s₀ : List ℕ) (a : RestReady l i c s₀)
         (passes-or-fails (eqb k j))
 
     -- on the path it is passed over
-    pub rest-skip : (s′ : List ℕ) (next′ : ℕ) → j ≡ next → s′ ≡ s → next′ ≡ aboveOf l j → Resting l i c s₀ s′ next′ (j + 1)
+    pub rest-skip :
+        (s′ : List ℕ) (next′ : ℕ) → j ≡ next → s′ ≡ s → next′ ≡ aboveOf l j → Resting l i c s₀ s′ next′ (j + 1)
     rest-skip s′ next′ e es q =
         let on : onPath l i j ≡ true = v .left j (omega arith) ∙ rw (← e)
         (sym (on-from l (v .working .feeds) j j h) ∙ on-self l (v .working .feeds) j h) in
@@ -96,7 +111,10 @@ module _ (l : List ℕ) (i : ℕ) (c s₀ : List ℕ) (a : RestReady l i c s₀)
       found : CardBounded (rowAt l j) (cardRowAt c j)
       found =
           let f = card-passed l i c (a .card-tested) j h in
-          record { pickup-to = subst (λ (m : ℕ). cardRowAt c j .pickup .0 ≤ m) (lent-other l i j other) (f .pickup-to); delay-to = f .delay-to }
+          record {
+            pickup-to = subst (λ (m : ℕ). cardRowAt c j .pickup .0 ≤ m) (lent-other l i j other) (f .pickup-to);
+            setting-to = card-setting (cardRowAt c j) f;
+          }
 
       pub rest-ready : FoundReady l j c s
       rest-ready =
@@ -107,7 +125,8 @@ module _ (l : List ℕ) (i : ℕ) (c s₀ : List ℕ) (a : RestReady l i c s₀)
           }
 
       pub rest-push :
-          (s′ : List ℕ) (next′ : ℕ) → s′ ≡ pushed l (rowAt l j) (cardRowAt c j) s → next′ ≡ next → Resting l i c s₀ s′ next′ (j + 1)
+          (s′ : List ℕ) (next′ : ℕ) → s′ ≡ pushed (rowAt l j) (cardRowAt c j) s → next′ ≡ next →
+          Resting l i c s₀ s′ next′ (j + 1)
       rest-push s′ next′ e en =
           rw (e, en)
           (record {
@@ -117,10 +136,13 @@ module _ (l : List ℕ) (i : ℕ) (c s₀ : List ℕ) (a : RestReady l i c s₀)
                 (rw (le-ltb j j (omega arith))) (rest l i (j + 1)) (λ k. rest-next k ∙ rw (off, and-true (eqb k j)));
             not-passed = omega (arith, v .not-passed);
             left = λ k b. v .left k (omega arith);
-            sums-length = pushed-length l (rowAt l j) (cardRowAt c j) s ∙ v .sums-length;
+            sums-length = pushed-length (rowAt l j) (cardRowAt c j) s ∙ v .sums-length;
           })
 
   -- all rows are passed
-  pub rest-end : (s : List ℕ) (next j : ℕ) → Resting l i c s₀ s next j → rows l ≤ j → Working l (λ k. not (onPath l i k)) (onPath l i) c s
+  pub rest-end :
+      (s : List ℕ) (next j : ℕ) → Resting l i c s₀ s next j → rows l ≤ j →
+      Working l (λ k. not (onPath l i k)) (onPath l i) c s
   rest-end s next j v h =
-      working-same l (rest l i j) (λ k. not (onPath l i k)) everyRow (onPath l i) c s (λ k b. rw (lt-ltb k j (omega arith))) (λ k _. refl) (v .working)
+      working-same l (rest l i j) (λ k. not (onPath l i k)) everyRow (onPath l i) c s
+      (λ k b. rw (lt-ltb k j (omega arith))) (λ k _. refl) (v .working)

@@ -1,5 +1,5 @@
--- [01 §4], [02 §1] 9 CARD: the numbers of a lent card that a replacement may start from, and the first row that is named where one is out of
--- range: as a reader would say it, and as the test that is proved to say exactly that. l is the list as it would be, i the replaced row.
+-- [01 §4], [02 §1, §3] 9 CARD: the numbers of a lent card that a replacement may start from, and the first row that is named where one is
+-- out of range: as a reader would say it, and as the test that is proved to say exactly that. l is the list as it would be, i the replaced row.
 -- Rows are counted from 0. Definitions only.
 use mathlib.Core.Bool.{Bool, not, cond}
 use mathlib.Core.List.{List}
@@ -23,7 +23,8 @@ use Rattle.sides.specs.Sides.{settingMost}
 unfoldable pub lentMost : List ℕ → ℕ → ℕ → ℕ
 lentMost l i j = cond (eqb j i) 100000000 (settingMost (field l j atPrimary))
 
--- the card rows of all rows of the list are in range
+-- the card rows of all rows of the list are in range: pickups and cutoffs as above, delays to document 01's limit; "CARD also for a lent law not
+-- of the three or a lent multiplier over 1,500 thousandths", so that a multiplier of 0 to 9, which is not available, may be lent
 abbrev pub CardInRange : List ℕ → ℕ → List ℕ → Type 0
 CardInRange l i c = (j : ℕ) → j < rows l → CardRowInRange (lentMost l i j) (cardRowAt c j)
 

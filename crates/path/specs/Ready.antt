@@ -5,6 +5,7 @@ use mathlib.Core.List.{List}
 use Prim.Native.Nat.{ℕ, _+_, _*_, _<_, _≤_}
 use lib.ListN.{length}
 use Rattle.answers.specs.declared.Tested.the-variants.{Passed}
+use Rattle.feeding.specs.Fed.{Linked}
 use Rattle.layout.specs.Card.{cardRowAt, columnBoundsTo}
 use Rattle.layout.specs.Counts.{fieldCount, columnCount, rowsMost}
 use Rattle.layout.specs.List.{rows, rowAt}
@@ -24,16 +25,17 @@ pub record RowReady (l c unrated rated : List ℕ) (j : ℕ) : Type 0 where
   pub unrated-is : unrated ≡ columnBoundsTo 100000000
   pub rated-is : rated ≡ columnBoundsTo 500000
 
--- every row off the path of row i is done and none on it, and the sums hold what is asked of the rows on it
-pub record ClimbReady (l : List ℕ) (i : ℕ) (c s : List ℕ) : Type 0 where
+-- every row off the path of row i is done and none on it, the sums hold what is asked of the rows on it, and the links are the list's
+pub record ClimbReady (l links : List ℕ) (i : ℕ) (c s : List ℕ) : Type 0 where
   pub is-row : i < rows l
+  pub linked : Linked l links
   pub working : Working l (λ j. not (onPath l i j)) (onPath l i) c s
 
 -- what row j asks with the numbers found on the card can be added
 pub record FoundReady (l : List ℕ) (j : ℕ) (c s : List ℕ) : Type 0 where
   pub in-list : j * fieldCount + fieldCount ≤ length l
   pub in-card : j * columnCount + columnCount ≤ length c
-  pub push : PushReady l (rowAt l j) (cardRowAt c j) s
+  pub push : PushReady (rowAt l j) (cardRowAt c j) s
 
 -- row i of a list of the right size, with room on the card
 pub record ReworkReady (l : List ℕ) (i : ℕ) (c : List ℕ) : Type 0 where

@@ -2,6 +2,8 @@
 // up to the first feeding row that comes out as it was [02 §8].
 use answers::Answer;
 use answers::Tested;
+use feeding::LINKS;
+use feeding::link;
 use fold::Found;
 use layout::AT_FEEDER;
 use layout::AT_PRIMARY;
@@ -96,7 +98,7 @@ fn first_card_wrong(list: &[u64], i: usize, card: &[u64]) -> Found
     Found::Nothing
 }
 
-// 9 CARD over all rows ascending, row i being the replaced one.
+// 9 CARD over all rows ascending, every column of each [02 §1, §3], row i being the replaced one.
 pub fn test_card(list: &[u64], i: usize, card: &[u64]) -> Tested
     requires { ⌜ rows (now list) * columnCount ≤ length (now card) ⌝ }
     ensures { λ t. ⌜ t ≡ cardTest (now (list .entry)) i (now (card .entry)) ⌝ }
@@ -123,10 +125,10 @@ fn above(list: &[u64], j: usize) -> usize
 // Adds what row j asks with the numbers found on the card.
 fn push_found(list: &[u64], j: usize, card: &[u64], sums: &mut [u64])
     requires { ⌜ FoundReady (now list) j (now card) (now sums) ⌝ }
-    ensures { λ _. ⌜ now (sums .exit) ≡ pushed (now (list .entry)) (rowAt (now (list .entry)) j) (cardRowAt (now (card .entry)) j) (now (sums .entry)) ⌝ }
+    ensures { λ _. ⌜ now (sums .exit) ≡ pushed (rowAt (now (list .entry)) j) (cardRowAt (now (card .entry)) j) (now (sums .entry)) ⌝ }
 {
     let k = card_row_at(card, j);
-    push(list, row_at(list, j), k, sums);
+    push(row_at(list, j), k, sums);
 }
 
 // Adds what every row off the path of row i asks. The rows of a path ascend: `next` is the next of them.
@@ -161,13 +163,20 @@ fn stays(card: &[u64], i: usize, old: CardRow, feeding: bool) -> bool
 
 // Works out row i and then, unless it is a feeding row that comes out as it was, the path of the row that feeds it. A refusal above
 // puts the row's old numbers back.
-fn climb(list: &[u64], i: usize, card: &mut [u64], sums: &mut [u64], feeding: bool) -> HowFar
-    requires { ⌜ ClimbReady (now list) i (now card) (now sums) ⌝ }
+fn climb(
+    list: &[u64],
+    links: &[u64],
+    i: usize,
+    card: &mut [u64],
+    sums: &mut [u64],
+    feeding: bool,
+) -> HowFar
+    requires { ⌜ ClimbReady (now list) (now links) i (now card) (now sums) ⌝ }
     ensures { λ f. ⌜ WorkedOut (now (list .entry)) (reachFrom (now (list .entry)) feeding (pathOf (now (list .entry)) i) (now (card .entry)))
         (now (card .entry)) f (now (card .exit)) ⌝ }
 {
     let old = card_row_at(card, i);
-    let own = work_row(list, i, card, sums);
+    let own = work_row(list, links, i, card, sums);
     if let Tested::Refused(a) = own {
         return HowFar::Refused(a);
     }
@@ -178,7 +187,7 @@ fn climb(list: &[u64], i: usize, card: &mut [u64], sums: &mut [u64], feeding: bo
     if feeder == 0 {
         return HowFar::Rows(1);
     }
-    match climb(list, (feeder - 1) as usize, card, sums, true) {
+    match climb(list, links, (feeder - 1) as usize, card, sums, true) {
         HowFar::Refused(a) => {
             put_card_row(card, i, old);
             HowFar::Refused(a)
@@ -187,12 +196,14 @@ fn climb(list: &[u64], i: usize, card: &mut [u64], sums: &mut [u64], feeding: bo
     }
 }
 
-// 11, 12 or 13 before 7 along the path of row i, the replaced one, which never stops the climb.
+// Row by row 11, 12 or 13 before 14, and 14 before 7, along the path of row i, the replaced one, which never stops the climb.
 pub fn work_path(list: &[u64], i: usize, card: &mut [u64]) -> HowFar
     requires { ⌜ PathReady (now list) i (now card) ⌝ }
     ensures { λ f. ⌜ WorkedOut (now (list .entry)) (reach (now (list .entry)) i (now (card .entry))) (now (card .entry)) f (now (card .exit)) ⌝ }
 {
+    let mut links = [0u64; LINKS];
+    link(list, &mut links);
     let mut sums = [0u64; SUMS];
     push_rest(list, i, card, &mut sums);
-    climb(list, i, card, &mut sums, false)
+    climb(list, &links, i, card, &mut sums, false)
 }

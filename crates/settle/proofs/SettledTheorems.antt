@@ -142,7 +142,7 @@ module _ (v : View) (k : Settings) (i : ℕ) (a : Bounded (v .row i)) where
       (s .law ≡ 0 → s .multiplier ≡ 0) × (s .cutoff ≡ printed (cutoffOf (v .row i)))
 
   -- otherwise settled, and exactly at the least settings with section 3's cutoff
-  settled-least : RowSettled v k i → LeastRow v k i
+  pub settled-least : RowSettled v k i → LeastRow v k i
   unfolding settled shown
   settled-least s =
       let o = s .outcome in

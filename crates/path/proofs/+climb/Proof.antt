@@ -19,14 +19,14 @@ use Rattle.rowwise.proofs.work_row.Reads as work-row-reads
 use Rattle.path.proofs.+climb.{statement}
 use Rattle.path.proofs.+climb.Tie.{close}
 
-abbrev μ-climb : Measures 3 climb-kinds.ps ℕ
-μ-climb κs a = rows (a .0 .now) - a .1 .0
+abbrev μ-climb : Measures 4 climb-kinds.ps ℕ
+μ-climb κs a = rows (a .0 .now) - a .1 .1 .0
 
-abbrev climb-at : ℕ → In 3 climb-kinds.ps
-climb-at t = and 3 climb-kinds.ps (is 3 climb-kinds.ps μ-climb t) climb.Pre
+abbrev climb-at : ℕ → In 4 climb-kinds.ps
+climb-at t = and 4 climb-kinds.ps (is 4 climb-kinds.ps μ-climb t) climb.Pre
 
-abbrev climb-below : ℕ → In 3 climb-kinds.ps
-climb-below t = and 3 climb-kinds.ps (falls 3 climb-kinds.ps _<_ μ-climb t) climb.Pre
+abbrev climb-below : ℕ → In 4 climb-kinds.ps
+climb-below t = and 4 climb-kinds.ps (falls 4 climb-kinds.ps _<_ μ-climb t) climb.Pre
 
 abbrev callees : ℕ → climb-lts.Claims
 callees t = (
@@ -56,16 +56,16 @@ module _ {t : ℕ} (k : climb-lts.After-stays (callees t) (climb-at t) climb.Pos
   noted = worked .before .before .before
 
   abbrev start : climb-lts.Start (callees t) (climb-at t) climb.Post
-  start = noted .before .before .before .before .before
+  start = noted .before .before .before .before .before .before
 
 climb-card-row-at-requires : (t : ℕ) → climb-lts.Need-card-row-at-requires (callees t) (climb-at t) climb.Post
-climb-card-row-at-requires t c κs = climb-works _ _ _ _ (c .before .before .before .before .pre .1) .in-card
+climb-card-row-at-requires t c κs = climb-works _ _ _ _ _ (c .before .before .before .before .before .pre .1) .in-card
 
 climb-work-row-requires : (t : ℕ) → climb-lts.Need-work-row-requires (callees t) (climb-at t) climb.Post
 climb-work-row-requires t c κs =
-    let at-5 = c .before .before .before .before .before in
-    let start = at-5 .before .before in
-    climb-works _ _ _ _ (start .pre .1)
+    let noted = c .before .before in
+    let start = noted .before .before .before .before .before .before in
+    climb-works _ _ _ _ _ (start .pre .1)
 
 climb-enum-known-own : (t : ℕ) → climb-lts.Need-enum-known-own (callees t) (climb-at t) climb.Post
 climb-enum-known-own t c = search needs
@@ -78,23 +78,22 @@ climb-same-length-2 t c = search needs
 
 climb-returns : (t : ℕ) → climb-lts.Need-returns (callees t) (climb-at t) climb.Post
 climb-returns t c =
-    let at-own = c .before in
-    let at-6 = at-own .before .before .before .before .before in
-    let at-work-row = at-6 .before in
-    let at-12 = at-work-row .before .before .before .before .before in
-    let start = at-12 .before .before .before in
-    climb-refused _ _ _ _ (start .pre .1) _ _ _ (at-work-row .work-row .ensures) (start .args .feeding) _ (at-own .own .given .1)
+    let own = c .before in
+    let worked = own .before .before .before .before .before .before in
+    let noted = worked .before .before .before in
+    let start = noted .before .before .before .before .before .before in
+    climb-refused _ _ _ _ _ (start .pre .1) _ _ _ (worked .work-row .ensures) (start .args .feeding) _ (own .own .given .1)
 
 climb-enum-told : (t : ℕ) → climb-lts.Need-enum-told (callees t) (climb-at t) climb.Post
 climb-enum-told t c = search needs
 
 climb-stays-requires : (t : ℕ) → climb-lts.Need-stays-requires (callees t) (climb-at t) climb.Post
 climb-stays-requires t c κs =
-    let at-5 = c .before .before .before .before .before in
-    let at-work-row = at-5 .before .before in
-    let at-12 = at-work-row .before .before .before .before .before in
-    let start = at-12 .before .before .before in
-    let k = climb-works _ _ _ _ (start .pre .1) in omega (arith, k .in-card, at-work-row .work-row .kept .1 .1 .0)
+    let told = c .before in
+    let worked = told .before .before .before .before .before .before in
+    let noted = worked .before .before .before in
+    let start = noted .before .before .before .before .before .before in
+    let k = climb-works _ _ _ _ _ (start .pre .1) in omega (arith, k .in-card, worked .work-row .kept .1 .1 .1 .0)
 
 climb-same-length-3 : (t : ℕ) → climb-lts.Need-same-length-3 (callees t) (climb-at t) climb.Post
 climb-same-length-3 t c = search needs
@@ -105,12 +104,12 @@ climb-same-length-4 t c = search needs
 climb-returns-2 : (t : ℕ) → climb-lts.Need-returns-2 (callees t) (climb-at t) climb.Post
 climb-returns-2 t c =
     let k = c .before in
-    let p = climb-passes _ _ _ _ (start k .pre .1) _ _ _ (worked k .work-row .ensures) (told k .enum-told .given .1) in
+    let p = climb-passes _ _ _ _ _ (start k .pre .1) _ _ _ (worked k .work-row .ensures) (told k .enum-told .given .1) in
     climb-stops p (start k .args .feeding) _ (noted k .card-row-at .ensures) _ (k .stays .ensures) (c .if1 .taken)
 
 climb-field-at-requires : (t : ℕ) → climb-lts.Need-field-at-requires (callees t) (climb-at t) climb.Post
 climb-field-at-requires t c κs =
-    let w = climb-works _ _ _ _ (start (c .before) .pre .1) in omega (arith, w .is-row)
+    let w = climb-works _ _ _ _ _ (start (c .before) .pre .1) in omega (arith, w .is-row)
 
 climb-same-length-5 : (t : ℕ) → climb-lts.Need-same-length-5 (callees t) (climb-at t) climb.Post
 climb-same-length-5 t c = search needs
@@ -122,7 +121,7 @@ climb-returns-3 : (t : ℕ) → climb-lts.Need-returns-3 (callees t) (climb-at t
 climb-returns-3 t c =
     let read = c .before in
     let k = read .before .before in
-    let p = climb-passes _ _ _ _ (start k .pre .1) _ _ _ (worked k .work-row .ensures) (told k .enum-told .given .1) in
+    let p = climb-passes _ _ _ _ _ (start k .pre .1) _ _ _ (worked k .work-row .ensures) (told k .enum-told .given .1) in
     climb-source p (start k .args .feeding) _ (noted k .card-row-at .ensures) _ (k .stays .ensures) (read .before .if1 .left) _
     (read .field-at .ensures) (c .if2 .taken)
 
@@ -134,7 +133,7 @@ climb-climb-requires t c κs =
     let fed = c .before .before in
     let read = fed .before in
     let k = read .before .before in
-    let p = climb-passes _ _ _ _ (start k .pre .1) _ _ _ (worked k .work-row .ensures) (told k .enum-told .given .1) in (
+    let p = climb-passes _ _ _ _ _ (start k .pre .1) _ _ _ (worked k .work-row .ensures) (told k .enum-told .given .1) in (
       subst (λ (n : ℕ). rows (start k .args .list .now) - (read .field-at .result - 1) < n) (start k .pre .0)
           (climb-less p (start k .args .feeding) _ (noted k .card-row-at .ensures) _ (k .stays .ensures) (read .before .if1 .left) _
           (read .field-at .ensures) (fed .if2 .left)),
@@ -150,19 +149,19 @@ climb-put-card-row-requires t c κs =
     let a = c .before .before in
     let above = a .before .before .before .before .before .before in
     let k = above .before .before .before .before .before .before in
-    let w = climb-works _ _ _ _ (start k .pre .1) in omega (arith, w .in-card, worked k .work-row .kept .1 .1 .0, above .climb .kept .1 .1 .0)
+    let w = climb-works _ _ _ _ _ (start k .pre .1) in omega (arith, w .in-card, worked k .work-row .kept .1 .1 .1 .0, above .climb .kept .1 .1 .1 .0)
 
 climb-enum-known-n : (t : ℕ) → climb-lts.Need-enum-known-n (callees t) (climb-at t) climb.Post
 climb-enum-known-n t c = search needs
 
-climb-add-t33 : (t : ℕ) → climb-lts.Need-add-t33 (callees t) (climb-at t) climb.Post
-climb-add-t33 t c =
+climb-add-t34 : (t : ℕ) → climb-lts.Need-add-t34 (callees t) (climb-at t) climb.Post
+climb-add-t34 t c =
     let n = c .before in
     let above = n .before .before .before .before .before .before in
     let fed = above .before .before .before in
     let read = fed .before in
     let k = read .before .before in
-    let p = climb-passes _ _ _ _ (start k .pre .1) _ _ _ (worked k .work-row .ensures) (told k .enum-told .given .1) in
+    let p = climb-passes _ _ _ _ _ (start k .pre .1) _ _ _ (worked k .work-row .ensures) (told k .enum-told .given .1) in
     let few = climb-counts p (start k .args .feeding) _ (noted k .card-row-at .ensures) _ (k .stays .ensures) (read .before .if1 .left) _
     (read .field-at .ensures) (fed .if2 .left) _ _ _
     (above .climb .ensures) (n .n .given .1) in omega (arith, few)
@@ -181,7 +180,7 @@ climb-returns-4 t c =
     let fed = above .before .before .before in
     let read = fed .before in
     let k = read .before .before in
-    let p = climb-passes _ _ _ _ (start k .pre .1) _ _ _ (worked k .work-row .ensures) (told k .enum-told .given .1) in
+    let p = climb-passes _ _ _ _ _ (start k .pre .1) _ _ _ (worked k .work-row .ensures) (told k .enum-told .given .1) in
     climb-back p (start k .args .feeding) _ (noted k .card-row-at .ensures) _ (k .stays .ensures) (read .before .if1 .left) _
     (read .field-at .ensures) (fed .if2 .left) _ _ _ _
     (above .climb .ensures) (a .a .given .1) (put .put-card-row .ensures)
@@ -199,7 +198,7 @@ climb-returns-5 t c =
     let fed = above .before .before .before in
     let read = fed .before in
     let k = read .before .before in
-    let p = climb-passes _ _ _ _ (start k .pre .1) _ _ _ (worked k .work-row .ensures) (told k .enum-told .given .1) in
+    let p = climb-passes _ _ _ _ _ (start k .pre .1) _ _ _ (worked k .work-row .ensures) (told k .enum-told .given .1) in
     climb-done p (start k .args .feeding) _ (noted k .card-row-at .ensures) _ (k .stays .ensures) (read .before .if1 .left) _
     (read .field-at .ensures) (fed .if2 .left) _ _ _
     (above .climb .ensures) (n .n .given .1)
@@ -228,7 +227,7 @@ pub +climb-spec : {M : Type 1} → statement M
     (climb-enum-known-a t)
     (climb-put-card-row-requires t)
     (climb-enum-known-n t)
-    (climb-add-t33 t)
+    (climb-add-t34 t)
     (climb-same-length-7 t)
     (climb-same-length-8 t)
     (climb-returns-4 t)
