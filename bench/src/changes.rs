@@ -1,15 +1,16 @@
 //! A replacement at the first, a middle and the last row of 256, one that works out
 //! its whole path and one that stops at the feeding row [02 §8], its tests of list
-//! and card apart, beside the Rust program that starts afresh.
+//! and card apart, beside the Rust program that starts afresh. On lists of curves
+//! [02 §3] the one that stops.
 
-use crate::median;
+use crate::{carded, median, Relays};
 use compare::boundary;
 use second::answer::{Answer, CARD};
 use second::conditions::step_between;
 use second::fast;
-use second::generate::{list_keyed, Keyed, Shape, KEYED};
+use second::generate::{Keyed, Laws, Shape, KEYED};
 use second::replace::{replace, Replaced};
-use second::row::{path_of, Row, CARD_NUMBERS, FIELDS, MOST_DELAY};
+use second::row::{path_of, Row, FIELDS, MOST_DELAY};
 use second::whole::Settings;
 use std::hint::black_box;
 use std::time::Instant;
@@ -18,9 +19,9 @@ const ROWS: u64 = 256;
 /// An even number, so that a round of rows by turns ends as it began.
 const CALLS: usize = 200;
 const ROUNDS: usize = 101;
-/// Above every cutoff that a card may hold: CARD in the last row, after the
+/// Above every multiplier that a card may hold: CARD in the last row, after the
 /// whole list and the rows before it are tested and before any is worked out.
-const NO_CUTOFF: u64 = 100_000_001;
+const NO_MULTIPLIER: u64 = 1_501;
 
 /// A list that holds the second of two rows at its place, with its card: the rows
 /// are put there by turns, and each time so many rows are worked out.
@@ -33,52 +34,59 @@ struct Turns {
 
 pub fn replacements() {
     println!(
-        "keyed, shape     row  rows worked out  tests ns  path ns  together ns  Rust afresh ns  \
+        "keyed, laws, shape         row  rows worked out  tests ns  path ns  together ns  Rust afresh ns  \
          together/Rust  path/Rust"
     );
     let shapes = [Shape::Chain, Shape::Tree];
     for (keyed, shape) in KEYED.into_iter().flat_map(|keyed| shapes.map(|shape| (keyed, shape))) {
-        let list = accepted(shape, keyed);
+        let relays = Relays { keyed, laws: Laws::Definite };
+        let list = with_room(first_accepted(relays, shape));
         for place in [1, ROWS / 2, ROWS] {
-            let far = whole_path(&list, place);
-            // In place of itself a row changes nothing, and its feeding row stops the climb.
-            let near = Turns::new(&list, [row_at(&list, place); 2]);
+            let (far, near) = (whole_path(&list, place), in_place(&list, place));
             assert_eq!(near.worked_out, far.worked_out.min(2));
-            print(keyed, shape, &far);
+            print(relays, shape, &far);
             if near.worked_out < far.worked_out {
-                print(keyed, shape, &near);
+                print(relays, shape, &near);
             }
+        }
+    }
+    for shape in shapes {
+        let relays = Relays { keyed: Keyed::Primary, laws: Laws::Curves };
+        let list = first_accepted(relays, shape);
+        for place in [1, ROWS / 2, ROWS] {
+            print(relays, shape, &in_place(&list, place));
         }
     }
 }
 
-fn print(keyed: Keyed, shape: Shape, turns: &Turns) {
+/// In place of itself a row changes nothing, and its feeding row stops the climb.
+fn in_place(list: &[u64], place: u64) -> Turns {
+    Turns::new(list, [row_at(list, place); 2])
+}
+
+fn print(relays: Relays, shape: Shape, turns: &Turns) {
     let (place, rows) = (turns.rows[0].row, turns.worked_out);
-    let lists = format!("{keyed:?} {shape:?}");
+    let lists = relays.name(shape);
     let [tests, whole, rust] = measure(turns);
     let path = whole - tests;
     println!(
-        "{lists:<15} {place:>4} {rows:>16} {tests:>9.0} {path:>8.0} {whole:>12.0} {rust:>15.0} \
+        "{lists:<25} {place:>4} {rows:>16} {tests:>9.0} {path:>8.0} {whole:>12.0} {rust:>15.0} \
          {:>14.2} {:>10.2}",
         whole / rust,
         path / rust
     );
 }
 
-/// A list that is accepted, with room for longer delays.
-fn accepted(shape: Shape, keyed: Keyed) -> Vec<u64> {
-    let made = (0..).map(|seed| list_keyed(shape, ROWS, keyed, seed));
-    let list = made.into_iter().find(|list| carded(list).is_some());
-    let mut list = list.expect("there is always one more");
+fn first_accepted(relays: Relays, shape: Shape) -> Vec<u64> {
+    relays.accepted(shape, ROWS).next().expect("there is always one more")
+}
+
+/// The list with room for longer delays.
+fn with_room(mut list: Vec<u64>) -> Vec<u64> {
     for row in list.as_chunks_mut::<FIELDS>().0 {
         *row = Row { ceiling: MOST_DELAY, ..Row::read(row) }.numbers();
     }
     list
-}
-
-fn carded(list: &[u64]) -> Option<Vec<u64>> {
-    let mut card = vec![0; CARD_NUMBERS * list.len() / FIELDS];
-    (fast::whole(list, &mut card) == Answer::DONE).then_some(card)
 }
 
 fn row_at(list: &[u64], place: u64) -> Row {
@@ -122,7 +130,7 @@ impl Turns {
 fn measure(turns: &Turns) -> [f64; 3] {
     let (mut list, mut card) = (turns.list.clone(), turns.card.clone());
     let (mut refused, mut out) = (card.clone(), card.clone());
-    *refused.last_mut().expect("a card row") = NO_CUTOFF;
+    *refused.last_mut().expect("a card row") = NO_MULTIPLIER;
     let place = turns.rows[0].row;
     let rows = turns.rows.map(|row| row.numbers());
     let tested = Replaced::refused(Answer::at(CARD, ROWS));

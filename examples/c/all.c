@@ -14,20 +14,22 @@
 /* fields, from 0 as C counts them; surfpocket.h and the README count from 1 */
 enum {
     ROW, FEEDS_FROM, KIND, VOLTS, WORK, SELFSTART, RETURN, FAR, CLEAR, NEAR, FACTOR, LOW, HIGH, STEP, DEVICE, FLOOR, CEILING, BACKED,
-    RATED_PRIMARY, RATED_SECONDARY
+    RATED_PRIMARY, RATED_SECONDARY, LAW, NEAR_GREATEST
 };
 
-/* a feeder, and the incomer that feeds it; both are keyed in primary mA, so that they have no rated currents */
+/* a feeder, and the incomer that feeds it; both are keyed in primary mA, so that they have no rated currents, and definite */
 static const uint64_t plant[NUMBERS] = {
     1, 2, 1, 35000, 180000, 1500, 935, 900000, 1000000, 1800000, 1300, 50000, 5000000, 1000, 1, 1900, 5000, 1, 0, 0,
+    SURFPOCKET_LAW_DEFINITE, 1800000,
     2, 0, 1, 35000, 200000, 1500, 935, 1500000, 3300000, 5200000, 1300, 50000, 10000000, 10000, 1, 0, 3000, 0, 0, 0,
+    SURFPOCKET_LAW_DEFINITE, 5200000,
 };
 
 static const char text[] =
     "row,name,feeds_from,kind,volts,work,selfstart,return,far,clear,near,factor,low,high,step,device,floor,ceiling,backed,"
-    "rated_primary,rated_secondary\r\n"
-    "1,F1,2,1,35000,180000,1500,935,900000,1000000,1800000,1300,50000,5000000,1000,1,1900,5000,1,0,0\r\n"
-    "2,IN,0,1,35000,200000,1500,935,1500000,3300000,5200000,1300,50000,10000000,10000,1,0,3000,0,0,0\r\n";
+    "rated_primary,rated_secondary,law,near_greatest\r\n"
+    "1,F1,2,1,35000,180000,1500,935,900000,1000000,1800000,1300,50000,5000000,1000,1,1900,5000,1,0,0,0,1800000\r\n"
+    "2,IN,0,1,35000,200000,1500,935,1500000,3300000,5200000,1300,50000,10000000,10000,1,0,3000,0,0,0,0,5200000\r\n";
 
 static const char *name_of(uint64_t number)
 {
@@ -45,6 +47,7 @@ static const char *name_of(uint64_t number)
     case SURFPOCKET_REFUSED_RANGE: return "RANGE";
     case SURFPOCKET_REFUSED_OWN_ZONE: return "OWN ZONE";
     case SURFPOCKET_REFUSED_BACKUP: return "BACKUP";
+    case SURFPOCKET_REFUSED_CURVE: return "CURVE";
     case SURFPOCKET_REFUSED_INPUT: return "INPUT";
     case SURFPOCKET_REFUSED_SLOPE: return "SLOPE";
     default: return "a number of a later version";
@@ -70,11 +73,27 @@ static void show_replacement(const char *what, SurfpocketReplacement given)
            given.place, third_of(given.number), given.field, given.rows);
 }
 
+static const char *law_of(uint64_t law)
+{
+    switch (law) {
+    case SURFPOCKET_LAW_DEFINITE: return "definite";
+    case SURFPOCKET_LAW_B: return "B";
+    case SURFPOCKET_LAW_C: return "C";
+    default: return "none";
+    }
+}
+
 static void show_card(const uint64_t *card)
 {
     for (size_t i = 0; i < ROWS; i++) {
         const uint64_t *set = card + i * SURFPOCKET_SIZE_COLUMNS;
-        printf("    row %zu: pickup %" PRIu64 " mA, delay %" PRIu64 " ms, cutoff %" PRIu64 " mA\n", i + 1, set[0], set[1], set[2]);
+        printf("    row %zu: pickup %" PRIu64 " mA, ", i + 1, set[0]);
+        if (set[3] == SURFPOCKET_LAW_DEFINITE) {
+            printf("delay %" PRIu64 " ms, ", set[1]);
+        } else {
+            printf("curve %s, multiplier %" PRIu64 ".%03" PRIu64 ", ", law_of(set[3]), set[4] / 1000, set[4] % 1000);
+        }
+        printf("cutoff %" PRIu64 " mA\n", set[2]);
     }
 }
 
@@ -87,6 +106,20 @@ static void try_whole(const char *what, size_t row, size_t field, uint64_t value
     show(what, surfpocket_whole(list, NUMBERS, card, SETTINGS));
 }
 
+/* the same with row 1 on curve B and another greatest current at its near end */
+static void try_curve(const char *what, uint64_t near_greatest)
+{
+    uint64_t list[NUMBERS], card[SETTINGS];
+    memcpy(list, plant, sizeof list);
+    list[LAW] = SURFPOCKET_LAW_B;
+    list[NEAR_GREATEST] = near_greatest;
+    SurfpocketAnswer answer = surfpocket_whole(list, NUMBERS, card, SETTINGS);
+    show(what, answer);
+    if (answer.number == SURFPOCKET_DONE) {
+        show_card(card);
+    }
+}
+
 static void whole(void)
 {
     static const uint64_t too_many[(SURFPOCKET_SIZE_ROWS + 1) * SURFPOCKET_SIZE_FIELDS];
@@ -97,16 +130,20 @@ static void whole(void)
     show("no row", surfpocket_whole(NULL, 0, card, SETTINGS));
     show("a partial row", surfpocket_whole(plant, NUMBERS - 1, card, SETTINGS));
     show("257 rows", surfpocket_whole(too_many, sizeof too_many / sizeof *too_many, card, SETTINGS));
-    show("a card of 5 numbers", surfpocket_whole(plant, NUMBERS, card, SETTINGS - 1));
+    show("a card of 9 numbers", surfpocket_whole(plant, NUMBERS, card, SETTINGS - 1));
     try_whole("row 1: volts 99", 0, VOLTS, 99);
     try_whole("row 1: low above high", 0, LOW, 5000001);
     try_whole("row 1: a rated secondary alone", 0, RATED_SECONDARY, 5);
     try_whole("row 1: pickups secondary, to 5,000 A", 0, RATED_PRIMARY, 300);
+    try_whole("row 1: law 3", 0, LAW, 3);
+    try_whole("row 1: no current at its near end", 0, NEAR_GREATEST, 0);
     try_whole("row 1: fed by itself", 0, FEEDS_FROM, 1);
     try_whole("row 2: high 359,999 mA", 1, HIGH, 359999);
     try_whole("row 2: far 539,999 mA", 1, FAR, 539999);
     try_whole("row 2: low 760,000 mA", 1, LOW, 760000);
     try_whole("row 2: ceiling 2,199 ms", 1, CEILING, 2199);
+    try_curve("row 1: curve B, M 2.000", 636000);
+    try_curve("row 1: curve B, M 1.000", 318317);
 }
 
 /* the replacement of row 1 of the plant, one field changed, on the list and card lent */
@@ -146,6 +183,12 @@ static void replace(void)
                      surfpocket_replace(list, NUMBERS, card, SETTINGS, 2, plant + SURFPOCKET_SIZE_FIELDS, SURFPOCKET_SIZE_FIELDS));
     show_replacement("keyed in secondary mA behind 300/5 A", key_row_1(list, card));
     show_card(card);
+    show_replacement("curve C", put_row_1(list, card, LAW, SURFPOCKET_LAW_C));
+    show_card(card);
+    show_replacement("the near end at 900,000 mA", put_row_1(list, card, NEAR_GREATEST, 900000));
+    show_card(card);
+    show_replacement("the near end at 335,000 mA", put_row_1(list, card, NEAR_GREATEST, 335000));
+    show_replacement("definite again", put_row_1(list, card, LAW, SURFPOCKET_LAW_DEFINITE));
     memcpy(old_list, list, sizeof list);
     memcpy(old_card, card, sizeof card);
     show_replacement("work 5,000,000 mA", put_row_1(list, card, WORK, 5000000));
@@ -156,7 +199,7 @@ static void replace(void)
     show_replacement("another number", put_row_1(list, card, ROW, 2));
     show_replacement("a place that no row has",
                      surfpocket_replace(list, NUMBERS, card, SETTINGS, 3, plant, SURFPOCKET_SIZE_FIELDS));
-    show_replacement("a new row of 19 numbers",
+    show_replacement("a new row of 21 numbers",
                      surfpocket_replace(list, NUMBERS, card, SETTINGS, 1, plant, SURFPOCKET_SIZE_FIELDS - 1));
     show_replacement("a list with a partial row",
                      surfpocket_replace(list, NUMBERS - 1, card, SETTINGS, 1, plant, SURFPOCKET_SIZE_FIELDS));
@@ -165,6 +208,12 @@ static void replace(void)
            memcmp(list, old_list, sizeof list) == 0 && memcmp(card, old_card, sizeof card) == 0 ? "yes" : "no");
     card[SURFPOCKET_SIZE_COLUMNS] = 0;
     show_replacement("a card with pickup 0 in row 2", put_row_1(list, card, WORK, 190000));
+    card[SURFPOCKET_SIZE_COLUMNS] = 370000;
+    card[SURFPOCKET_SIZE_COLUMNS + 3] = 3;
+    show_replacement("a card with law 3 in row 2", put_row_1(list, card, WORK, 190000));
+    card[SURFPOCKET_SIZE_COLUMNS + 3] = SURFPOCKET_LAW_DEFINITE;
+    card[SURFPOCKET_SIZE_COLUMNS + 4] = 1501;
+    show_replacement("a card with multiplier 1.501 in row 2", put_row_1(list, card, WORK, 190000));
     list[SURFPOCKET_SIZE_FIELDS + KIND] = 3;
     show_replacement("a list whose row 2 is a motor", put_row_1(list, card, WORK, 190000));
 }
@@ -239,6 +288,23 @@ static void differential(void)
     show_differential("an outside fault of 1.00", surfpocket_differential(30, 200, 700, 100, 100, 98, 5, 99));
 }
 
+/* M and multiplier in thousandths */
+static void show_time(const char *what, uint64_t law, uint64_t multiple, uint64_t multiplier)
+{
+    printf("  %-40s %" PRIu64 " ms\n", what, surfpocket_time(law, multiple, multiplier));
+}
+
+static void times(void)
+{
+    puts("the time of a curve");
+    show_time("B at M 2.000, multiplier 1.000", SURFPOCKET_LAW_B, 2000, 1000);
+    show_time("C at M 10.000, multiplier 1.000", SURFPOCKET_LAW_C, 10000, 1000);
+    show_time("C at M 20.000, multiplier 0.010", SURFPOCKET_LAW_C, 20000, 10);
+    show_time("a definite row has none", SURFPOCKET_LAW_DEFINITE, 2000, 1000);
+    show_time("nor has M 1.000", SURFPOCKET_LAW_B, 1000, 1000);
+    show_time("nor a multiplier of 1.501", SURFPOCKET_LAW_B, 2000, 1501);
+}
+
 /* the printed card or refusal of a text, without the CRs of its line ends */
 static void print(const char *what, const void *bytes, size_t length, size_t room)
 {
@@ -260,8 +326,9 @@ static void card(void)
     puts("from text to card");
     print("the plant", text, length, SURFPOCKET_SIZE_PRINTED);
     print("a buffer of 60 bytes", text, length, 60);
-    print("the last number cut off", text, length - 3, SURFPOCKET_SIZE_PRINTED);
-    print("the same, a buffer of 20 bytes", text, length - 3, 20);
+    size_t cut = length - strlen("5200000\r\n");
+    print("the last number cut off", text, cut, SURFPOCKET_SIZE_PRINTED);
+    print("the same, a buffer of 20 bytes", text, cut, 20);
     print("65,537 bytes", too_long, sizeof too_long, SURFPOCKET_SIZE_PRINTED);
     print("no byte, no buffer", NULL, 0, 0);
 }
@@ -276,6 +343,7 @@ int main(void)
     replace();
     study();
     differential();
+    times();
     card();
     return EXIT_SUCCESS;
 }

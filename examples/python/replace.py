@@ -1,14 +1,14 @@
 """A feeder and its incomer: one changed load on the old card, changes that are refused and leave the card alone, another device,
-a relay keyed in secondary mA. Then a plant of eight rows: how far a changed load goes, and so which relays the fitter visits."""
-import csv
+a relay keyed in secondary mA, and one on a curve. Then a plant of eight rows: how far a changed load goes, and so which relays the fitter visits."""
 import itertools
 
 import surfpocket
 
 # row, feeds_from, kind, volts, work, selfstart, return, far, clear, near, factor, low, high, step, device, floor, ceiling, backed,
-# rated primary, rated secondary: 0 in both, so that the relays are keyed in primary mA
-F1 = [1, 2, 1, 35000, 180000, 1500, 935, 900000, 1000000, 1800000, 1300, 50000, 5000000, 1000, 1, 1900, 5000, 1, 0, 0]
-IN = [2, 0, 1, 35000, 200000, 1500, 935, 1500000, 3300000, 5200000, 1300, 50000, 10000000, 10000, 1, 0, 3000, 0, 0, 0]
+# rated primary, rated secondary: 0 in both, so that the relays are keyed in primary mA; law: 0, so definite; the greatest current
+# at the near end
+F1 = [1, 2, 1, 35000, 180000, 1500, 935, 900000, 1000000, 1800000, 1300, 50000, 5000000, 1000, 1, 1900, 5000, 1, 0, 0, 0, 1800000]
+IN = [2, 0, 1, 35000, 200000, 1500, 935, 1500000, 3300000, 5200000, 1300, 50000, 10000000, 10000, 1, 0, 3000, 0, 0, 0, 0, 5200000]
 PLANT = surfpocket.HOME / "examples/lists/plant-35-6.csv"
 # places in a row, from 0
 FEEDS_FROM = 1
@@ -17,6 +17,8 @@ FAR = 7
 LOW = 11
 DEVICE = 14
 RATED_PRIMARY = 18
+LAW = 20
+NEAR_GREATEST = 21
 
 
 def changed(row, field, value):
@@ -25,7 +27,7 @@ def changed(row, field, value):
 
 def keyed_in_secondary(row):
     """The row with pickups of 500 to 80,000 secondary mA in steps of 10, behind a transformer of 300/5 A."""
-    return row[:LOW] + [500, 80000, 10] + row[DEVICE:RATED_PRIMARY] + [300, 5]
+    return row[:LOW] + [500, 80000, 10] + row[DEVICE:RATED_PRIMARY] + [300, 5] + row[LAW:]
 
 
 def path(rows, place):
@@ -69,11 +71,15 @@ def main():
     print("row 2, an electromechanical relay:")
     replace(library, rows, card, changed(IN, DEVICE, 2))
     print("row 1, keyed in secondary mA behind 300/5 A:")
-    replace(library, rows, card, keyed_in_secondary(changed(F1, WORK, 190000)))
+    keyed = keyed_in_secondary(changed(F1, WORK, 190000))
+    replace(library, rows, card, keyed)
+    print("row 1, curve B:")
+    curve = changed(keyed, LAW, surfpocket.CONSTANT["LAW_B"])
+    replace(library, rows, card, curve)
+    print("row 1, curve B, at most 335,000 mA at its near end:")
+    replace(library, rows, card, changed(curve, NEAR_GREATEST, 335000))
     print("the plant:")
-    with open(PLANT, newline="") as text:
-        lines = list(csv.reader(text))[1:]
-    plant = [[int(cell) for cell in line[:1] + line[2:]] for line in lines]
+    _, plant = surfpocket.read_list(PLANT)
     rows, card = first_card(library, plant)
     print("row 1, work 121,000 mA:")
     replace(library, rows, card, changed(plant[0], WORK, 121000))

@@ -51,7 +51,8 @@ above-room a h = record { not-text = λ e. omega arith; not-room = λ e. omega a
 
 refused-above : {v : View} {a : Answer} → RefusedAt v a → 3 < getD (givenBy a) 0 0
 refused-above (RefusedAt.NO-PICKUP k i why u n) = omega (arith, unsettled-above (i + 1) (Pickup why))
-refused-above (RefusedAt.DELAY k i u p n) = omega arith
+refused-above (RefusedAt.CURVE k i x place u p n) = omega arith
+refused-above (RefusedAt.DELAY k i x u p r n) = omega arith
 
 pub whole-no-text : (l : List ℕ) → NoText (whole l blankCard .answer)
 whole-no-text l = of-gets (every-list-gets l blankCard (whole l blankCard .answer) .0 refl)

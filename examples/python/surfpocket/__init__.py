@@ -1,4 +1,5 @@
 """include/surfpocket.h for Python, through ctypes."""
+import csv
 import ctypes
 import pathlib
 import re
@@ -53,9 +54,18 @@ def load():
     library.surfpocket_study.restype = Study
     library.surfpocket_differential.argtypes = [number] * 8
     library.surfpocket_differential.restype = Differential
+    library.surfpocket_time.argtypes = [number] * 3
+    library.surfpocket_time.restype = number
     if library.surfpocket_version() != CONSTANT["VERSION"]:
         raise RuntimeError("the library is of another version than the header")
     return library
+
+
+def read_list(path):
+    """The names of a list's rows, and their numbers."""
+    with open(path, newline="") as text:
+        lines = list(csv.reader(text))[1:]
+    return [line[1] for line in lines], [[int(cell) for cell in line[:1] + line[2:]] for line in lines]
 
 
 def numbers(rows):
@@ -69,7 +79,7 @@ def empty_card(rows):
 
 
 def print_card(card):
-    print("row,pickup,delay,cutoff")
+    print("row,pickup,delay,cutoff,law,multiplier")
     for start in range(0, len(card), COLUMNS):
         print(start // COLUMNS + 1, *card[start : start + COLUMNS], sep=",")
 

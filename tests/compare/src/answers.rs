@@ -1,15 +1,17 @@
-//! Answers in their three numbers [01 §4, 02 §2, §11], and the rows that a replacement
+//! Answers in their three numbers [01 §4, 02 §2, §3, §11], and the rows that a replacement
 //! worked out [02 §8]: what they are called, when two agree, and which must turn up.
 
 use crate::boundary;
 use crate::run::{Item, Score};
 use second::answer::*;
+use second::curve::{B, C, DEFINITE};
 use second::differential::{BLOCKED, HOLD, TRIP};
 use second::replace::Replaced;
-use second::row::Row;
+use second::row::{Row, CARD_NUMBERS, FIELDS, MOST_ROWS};
+use second::text::MOST_BYTES;
 
-/// Every number but 0; 6 is retired, and 14 and 15 are not given yet.
-const REFUSALS: [(u64, &str); 14] = [
+/// Every number but 0; 6 is retired, and 15 is not given yet.
+const REFUSALS: [(u64, &str); 15] = [
     (TEXT, "TEXT"),
     (COUNT, "COUNT"),
     (ROOM, "ROOM"),
@@ -22,11 +24,23 @@ const REFUSALS: [(u64, &str); 14] = [
     (RANGE, "RANGE"),
     (OWN_ZONE, "OWN ZONE"),
     (BACKUP, "BACKUP"),
+    (CURVE, "CURVE"),
     (INPUT, "INPUT"),
     (SLOPE, "SLOPE"),
 ];
 
 pub const VERDICTS: [(u64, &str); 3] = [(TRIP, "TRIP"), (HOLD, "HOLD"), (BLOCKED, "BLOCKED")];
+
+pub const LAW_NAMES: [(u64, &str); 3] = [(DEFINITE, "DEFINITE"), (B, "B"), (C, "C")];
+
+/// The sizes of the header, those that grow first.
+const SIZES: [(u64, &str); 5] = [
+    (CARD_NUMBERS as u64, "COLUMNS"),
+    (FIELDS as u64, "FIELDS"),
+    (MOST_ROWS as u64, "ROWS"),
+    (boundary::CARD_ROOM as u64, "PRINTED"),
+    (MOST_BYTES as u64, "TEXT"),
+];
 
 /// The numbers whose third number names something.
 pub const NAMING: [u64; 2] = [FIELD, BACKUP];
@@ -65,9 +79,10 @@ pub fn label(item: Item) -> String {
     format!("{}{}", name_of(item.0), ["", " of a later fed row"][item.1 as usize])
 }
 
-/// The header has the same names and numbers, of refusals and of verdicts.
+/// The header has the same names and numbers, of refusals, verdicts, laws and sizes.
 pub fn check_header(score: &mut Score) {
-    for (start, ours) in [("REFUSED_", &REFUSALS[..]), ("VERDICT_", &VERDICTS)] {
+    let (verdicts, laws) = (("VERDICT_", &VERDICTS[..]), ("LAW_", &LAW_NAMES[..]));
+    for (start, ours) in [("REFUSED_", &REFUSALS[..]), verdicts, laws, ("SIZE_", &SIZES)] {
         let header = boundary::defined(start);
         let named = header.iter().map(|(name, number)| (*number, name.replace('_', " ")));
         let mut named: Vec<_> = named.collect();

@@ -93,6 +93,8 @@ extern "C" {
         restraint: u64,
     ) -> SurfpocketDifferential;
 
+    fn surfpocket_time(law: u64, multiple: u64, multiplier: u64) -> u64;
+
     fn surfpocket_card(
         text: *const u8,
         text_length: usize,
@@ -200,8 +202,14 @@ pub fn differential(inputs: &Inputs) -> DifferentialAnswer {
     }
 }
 
-/// Room for every card and every refusal.
-pub const CARD_ROOM: usize = 22_810;
+pub fn time(law: u64, multiple: u64, multiplier: u64) -> u64 {
+    // SAFETY: numbers only.
+    unsafe { surfpocket_time(law, multiple, multiplier) }
+}
+
+/// Room for every card and every refusal: the header, and 256 lines of a name of 24
+/// bytes and five numbers of up to 20 digits.
+pub const CARD_ROOM: usize = 41 + 256 * (24 + 5 * 21 + 2);
 
 /// What the text gives, and how many bytes of `out` were written.
 pub fn card(text: &[u8], out: &mut [u8]) -> (Answer, u64) {

@@ -226,9 +226,10 @@ fn numbers() -> Vec<Case> {
         let field = if column == field::RATED_PRIMARY { field::HIGH } else { column.max(1) };
         (column, &b"999999999"[..], Answer::field(1, field as u64))
     });
-    let fits = [(10, &b"100000000"[..], OK), (18, b"0", OK), (19, b"0", OK), (20, b"0", OK)];
+    let zeros = [18, 19, 20, 21].map(|column| (column, &b"0"[..], OK));
+    let fits = [(10, &b"100000000"[..], OK), (21, b"2", OK), (22, b"100000000", OK)];
     bad.chain(nine)
-        .chain(fits)
+        .chain(zeros.into_iter().chain(fits))
         .map(|(column, cell, wanted)| {
             let what = format!("{:?} in column {column}", String::from_utf8_lossy(cell));
             (what, with_cell(column, cell), wanted)

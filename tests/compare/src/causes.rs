@@ -5,7 +5,7 @@ use crate::boundary::CARD_ROOM;
 use crate::bounded_texts::{with_cells, Cell};
 use crate::run::{Found, Group, Kind, Seen};
 use crate::{changes, lists, texts};
-use second::answer::{Answer, OWN_ZONE, RANGE};
+use second::answer::{Answer, CURVE, DELAY, OWN_ZONE, RANGE};
 use second::generate::*;
 use second::row::FIELDS;
 
@@ -151,7 +151,37 @@ fn documented(_: u64, _: u64, seen: &mut Seen) -> Found {
     for (cells, due) in cases {
         is_given(cells, due, seen)?;
     }
-    Ok(())
+    curves(seen)
+}
+
+/// Section 6's list with curves [02 §3]: 636,000 mA are twice F1's pickup, where B has
+/// 13.5 ms for each thousandth and 141 give 1,903.5; 720,000 mA are twice IN's, where 83
+/// of C give 2,213.3, for 2,200, and at its own near end 32.
+fn curves(seen: &mut Seen) -> Found {
+    let [floor, ceiling, law, near] = [16, 17, 21, 22];
+    let (curve, delay) = (|row| Answer::at(CURVE, row), |row| Answer::at(DELAY, row));
+    let fed: [Cell; 2] = [(1, law, b"1"), (1, near, b"636000")];
+    let free: [Cell; 4] =
+        [(1, law, b"1"), (1, floor, b"0"), (1, ceiling, b"100000"), (2, ceiling, b"100000")];
+    let above: [Cell; 1] = [(2, law, b"2")];
+    let cases: [(&[Cell], Cell, Answer); 10] = [
+        (&fed, (2, ceiling, b"2204"), Answer::DONE),
+        (&fed, (2, ceiling, b"2203"), delay(2)),
+        (&fed, (1, ceiling, b"1904"), Answer::DONE),
+        (&fed, (1, ceiling, b"1903"), delay(1)),
+        (&free, (1, near, b"318317"), curve(1)),
+        (&free, (1, near, b"318318"), delay(1)),
+        (&free, (1, near, b"318636"), Answer::DONE),
+        (&above, (1, near, b"720000"), Answer::DONE),
+        (&above, (1, near, b"360360"), Answer::DONE),
+        (&above, (1, near, b"360359"), curve(2)),
+    ];
+    for (cells, cell, due) in cases {
+        is_given(&[cells, &[cell]].concat(), due, seen)?;
+    }
+    let own: [Cell; 2] = [(2, law, b"2"), (1, near, b"720000")];
+    is_given(&[&own[..], &[(2, ceiling, b"32")]].concat(), Answer::DONE, seen)?;
+    is_given(&[&own[..], &[(2, ceiling, b"31")]].concat(), delay(2), seen)
 }
 
 fn is_given(cells: &[Cell], due: Answer, seen: &mut Seen) -> Found {

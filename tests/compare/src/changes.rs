@@ -1,15 +1,15 @@
-//! Replacements, one by one and in series beside the ledger [01 §4, 02 §1, §2, §8].
+//! Replacements, one by one and in series beside the ledger [01 §4, 02 §1, §2, §3, §8].
 
 use crate::answers::{agree_in_rows, item_of, items_of, label};
 use crate::climbs::Climb;
 use crate::lists::{row_count, ACCEPTED_ROWS};
 use crate::run::{Found, Group, Kind, Score, Seen};
-use crate::{boundary, keyed};
+use crate::{alone, boundary, keyed};
 use second::answer::*;
 use second::generate::*;
 use second::replace::{replace, Ledger, Replaced};
-use second::row::{Row, CARD_NUMBERS, FIELDS};
-use second::whole::{whole, Settings};
+use second::row::{CARD_NUMBERS, FIELDS};
+use second::whole::whole;
 
 const NUMBERS: Group = Group {
     name: "numbers given back by replacements",
@@ -18,7 +18,7 @@ const NUMBERS: Group = Group {
 };
 
 /// Of lists and cards in range, with room.
-const OF_SERIES: &[u64] = &[DONE, EDIT, FIELD, TREE, RANGE, OWN_ZONE, BACKUP, DELAY];
+const OF_SERIES: &[u64] = &[DONE, EDIT, FIELD, TREE, RANGE, OWN_ZONE, BACKUP, CURVE, DELAY];
 
 const IN_SERIES: Group = Group {
     name: "replacements in series beside the ledger",
@@ -32,17 +32,7 @@ const ROWS: Group = Group { name: "rows of lists in series", ..ACCEPTED_ROWS };
 /// On cards in range that no calculation of the list gives.
 const ON_FOREIGN: Group = Group { name: "replacements on foreign cards", ..IN_SERIES };
 
-const EFFECTS: [&str; 3] = ["stays", "changes", "refused"];
-
-/// What another device alone does to the delay of a row with a feeding row, through
-/// the rows that it feeds, and to its feeding row's [02 §5], by their places in EFFECTS.
-const BY_DEVICE: Group = Group {
-    name: "delays in series where only a device is replaced",
-    wanted: || vec![(1, 0), (0, 1), (1, 1), (2, 0), (0, 2)],
-    label: |item| format!("own {}, above {}:", EFFECTS[item.0 as usize], EFFECTS[item.1 as usize]),
-};
-
-pub const GROUPS: [Group; 5] = [NUMBERS, IN_SERIES, ROWS, ON_FOREIGN, BY_DEVICE];
+pub const GROUPS: [Group; 4] = [NUMBERS, IN_SERIES, ROWS, ON_FOREIGN];
 
 pub const KINDS: [Kind; 4] = [
     Kind { name: "replacements on any list and card", cases: 40_000, case: one },
@@ -84,6 +74,15 @@ fn note(group: &Group, list: &[u64], answer: Answer, seen: &mut Seen) {
     seen.note(group, item_of(list, answer));
 }
 
+/// A change in a series, by the list before it, with the answer to it and the cards before
+/// and after.
+pub struct Step<'a> {
+    pub list: &'a [u64],
+    pub change: &'a Change,
+    pub answer: Answer,
+    pub cards: [&'a [u64]; 2],
+}
+
 /// An accepted list, a card lent for it, and that card as the whole calculation left it.
 pub fn accepted(seed: u64) -> (Vec<u64>, Vec<u64>, Vec<u64>) {
     let mut rng = Rng::new(seed);
@@ -115,8 +114,7 @@ fn beside_ledger(seed: u64, length: usize, seen: &mut Seen) -> Found {
     seen.note(&ROWS, row_count((list.len() / FIELDS) as u64));
     let mut ledger = Ledger::new(&list);
     for (step, change) in series(&list.clone(), length, seed).iter().enumerate() {
-        let (before, by_device) = (card.clone(), is_device_alone(&list, change));
-        let old_list = list.clone();
+        let (old_list, before) = (list.clone(), card.clone());
         let given = boundary::replace(&mut list, &mut card, change.place, &change.row);
         let answer = ledger.feed(change.place, &change.row);
         let expected = Replaced { answer, rows: ledger.rows() };
@@ -127,36 +125,14 @@ fn beside_ledger(seed: u64, length: usize, seen: &mut Seen) -> Found {
             return Err(format!("list or card differ after step {step} of series {seed}"));
         }
         note(&IN_SERIES, &list, answer, seen);
-        keyed::note_change(&old_list, change, answer, [&before, &card], seen);
+        let done = Step { list: &old_list, change, answer, cards: [&before, &card] };
+        keyed::note_change(&done, seen);
+        alone::note_change(&done, seen);
         if answer == Answer::DONE {
             Climb::new(&list, change.place, given.rows, [&before, &card]).note_in_series(seen);
         }
-        if by_device && change.row[1] != 0 {
-            let effect = |row| effect_on(row, answer, &before, &card);
-            seen.note(&BY_DEVICE, (effect(change.place), effect(change.row[1])));
-        }
     }
     Ok(())
-}
-
-/// Whether the new row is the list's with another device.
-fn is_device_alone(list: &[u64], change: &Change) -> bool {
-    let at = (change.place as usize).wrapping_sub(1);
-    let (Some(old), Ok(new)) = (list.as_chunks().0.get(at), change.row.as_slice().try_into())
-    else {
-        return false;
-    };
-    let (old, new) = (Row::read(old), Row::read(new));
-    new != old && new == Row { device: new.device, ..old }
-}
-
-/// By its place in EFFECTS, for the delay of a row.
-fn effect_on(row: u64, answer: Answer, before: &[u64], after: &[u64]) -> u64 {
-    if answer == Answer::at(DELAY, row) {
-        return 2;
-    }
-    let delay = |card: &[u64]| Settings::read(&card.as_chunks().0[row as usize - 1]).delay;
-    u64::from(delay(before) != delay(after))
 }
 
 /// After each replacement the answer, the rows worked out, the list and the card are

@@ -32,7 +32,7 @@ const ENDS_ON_FOREIGN: Group = Group { name: "ends of climbs on foreign cards", 
 /// How many rows were worked out.
 const ROWS_IN_SERIES: Group = Group { name: "rows worked out in series", ..ACCEPTED_ROWS };
 
-const COLUMNS: [&str; CARD_NUMBERS] = ["pickup", "delay", "cutoff"];
+pub const COLUMNS: [&str; CARD_NUMBERS] = ["pickup", "delay", "cutoff", "law", "multiplier"];
 
 /// Of a feeding row that the climb went past, the numbers that stayed: for each
 /// column its power of two. All of them would have stopped it.
@@ -50,13 +50,22 @@ const KEPT_ON_FOREIGN: Group = Group {
     },
 };
 
-const CUTOFF_KEPT: u64 = 1 << 2;
+/// Cutoff and law; delay; multiplier.
+const ALWAYS_KEPT: u64 = 1 << 2 | 1 << 3;
+const DELAY_KEPT: u64 = 1 << 1;
+const MULTIPLIER_KEPT: u64 = 1 << 4;
 const ALL_KEPT: u64 = (1 << CARD_NUMBERS) - 1;
 
-/// On the list's own card the cutoff of a feeding row always stays.
+/// On the list's own card the cutoff and the law of a feeding row always stay, and by
+/// its law the delay or the multiplier, which is 0 [02 §3].
 const KEPT_IN_SERIES: Group = Group {
     name: "numbers that stay in a row that doesn't stop the climb, in series",
-    wanted: || (0..ALL_KEPT).filter(|kept| kept & CUTOFF_KEPT != 0).map(|kept| (kept, 0)).collect(),
+    wanted: || {
+        let can_be = |kept: &u64| {
+            kept & ALWAYS_KEPT == ALWAYS_KEPT && kept & (DELAY_KEPT | MULTIPLIER_KEPT) != 0
+        };
+        (0..ALL_KEPT).filter(can_be).map(|kept| (kept, 0)).collect()
+    },
     ..KEPT_ON_FOREIGN
 };
 
@@ -65,7 +74,7 @@ const KEPT_IN_SERIES: Group = Group {
 const PAST_THE_STOP: Group = Group {
     name: "rows past a stop on foreign cards, had they been worked out",
     wanted: || {
-        let refusals = [RANGE, OWN_ZONE, BACKUP, DELAY].map(|number| (number, 0));
+        let refusals = [RANGE, OWN_ZONE, BACKUP, CURVE, DELAY].map(|number| (number, 0));
         [&[(DONE, 0), (DONE, 1)][..], &refusals].concat()
     },
     label: |item| match item {

@@ -1,6 +1,7 @@
 //! Faults two at a time, where section 4's order decides, RANGE, OWN ZONE and
-//! BACKUP standing where PICKUP stood [02 §2]: one is put into an accepted list
-//! or a replacement that is done, then another that leaves the first in it.
+//! BACKUP standing where PICKUP stood [02 §2], CURVE before DELAY [02 §3]: one is put
+//! into an accepted list or a replacement that is done, then another that leaves the
+//! first in it.
 
 use crate::answers::{name_of, NAMING};
 use crate::faults::{add_fault, open_to};
@@ -13,8 +14,15 @@ use second::row::{path_of, CARD_NUMBERS, FIELDS};
 /// The order for a replacement, stage by stage; for a whole calculation it is
 /// the same without EDIT and CARD. Each stage goes over the rows ascending; the
 /// numbers of the last one are tried in each row in their order.
-const ORDER: [&[u64]; 7] =
-    [&[COUNT], &[ROOM], &[EDIT], &[FIELD], &[TREE], &[CARD], &[RANGE, OWN_ZONE, BACKUP, DELAY]];
+const ORDER: [&[u64]; 7] = [
+    &[COUNT],
+    &[ROOM],
+    &[EDIT],
+    &[FIELD],
+    &[TREE],
+    &[CARD],
+    &[RANGE, OWN_ZONE, BACKUP, CURVE, DELAY],
+];
 
 const ALONG_THE_PATH: &[u64] = ORDER[ORDER.len() - 1];
 
@@ -209,7 +217,7 @@ fn replacement_twice(_: u64, seed: u64, seen: &mut Seen) -> Found {
 /// stops the climb before it comes to a fault [02 §8].
 fn unsettle(card: &mut [u64], path: &[u64]) {
     for &row in path {
-        let cutoff = &mut card[row as usize * CARD_NUMBERS - 1];
+        let cutoff = &mut card[(row as usize - 1) * CARD_NUMBERS + 2];
         *cutoff = cutoff.checked_sub(1).unwrap_or(1);
     }
 }

@@ -1,5 +1,6 @@
-//! Conditions at equality and one off it, and where a fraction of a mA lets none be
-//! equal [01 §3, 02 §1, §2], in lists and in replacements of the row that is moved.
+//! Conditions at equality and one off it, D1 and D2 by every law, and where a fraction of
+//! a mA lets none be equal [01 §3, 02 §1, §2, §3], in lists and in replacements of the row
+//! that is moved.
 
 use crate::answers::name_of;
 use crate::run::{Found, Group, Item, Kind, Seen};
@@ -145,7 +146,8 @@ fn each_edge(
     compare: impl Fn(&[Vec<u64>; 3], usize, &mut Seen) -> Result<Answer, String>,
 ) -> Found {
     let (shape, keyed) = (SHAPES[count as usize % 4], KEYED[count as usize / 4 % 3]);
-    let list = list_keyed(shape, 1 + count % 12, keyed, seed);
+    let laws = LAW_MIXES[count as usize / 12 % 3];
+    let list = list_with(shape, 1 + count % 12, keyed, laws, seed);
     for (at, condition) in (0..).zip(CONDITIONS) {
         for stands in [Stands::Equal, Stands::Between] {
             let Some(edge) = at_edge(&list, condition, stands, seed) else { continue };

@@ -1,10 +1,11 @@
 //! Faults put into an accepted list or its card, one number's at a time [01 §4,
-//! 02 §2].
+//! 02 §2, §3].
 
 use second::answer::*;
 use second::conditions::backs_up;
+use second::curve::CURVES;
 use second::generate::{lent_card, zone_bound, Lent, Rng};
-use second::row::{Row, CARD_NUMBERS, FIELDS, MOST_CURRENT};
+use second::row::{field, Row, CARD_NUMBERS, FIELDS, MOST_CURRENT};
 use second::whole::Settings;
 
 /// Those of the rows that such a fault can be put into.
@@ -52,6 +53,11 @@ pub fn add_fault(rng: &mut Rng, number: u64, row: u64, lent: &mut Lent) {
             let fed: Vec<&Row> = unseen.iter().filter(|fed| fed.feeds_from == row).collect();
             let fed = rng.pick(&fed);
             lent.list.as_chunks_mut::<FIELDS>().0[fed.row as usize - 1] = fed.numbers();
+        }
+        // P1 asks for more than 1 mA.
+        CURVE => {
+            set(field::LAW, rng.pick(&CURVES));
+            set(field::NEAR_GREATEST, 1);
         }
         DELAY => {
             set(16, 1);

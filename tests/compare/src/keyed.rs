@@ -2,9 +2,9 @@
 //! refused at a row, and where a row is keyed otherwise by a replacement in a series.
 
 use crate::answers::name_of;
+use crate::changes::Step;
 use crate::run::{Group, Item, Seen};
 use second::answer::*;
-use second::generate::Change;
 use second::replace::edited;
 use second::row::{Row, CARD_NUMBERS, FIELDS};
 use second::whole::Settings;
@@ -54,7 +54,7 @@ const FRACTIONS: Group = Group {
     label: |item| ["pickup", "cutoff"][item.0 as usize].to_string(),
 };
 
-const AT_A_ROW: [u64; 4] = [RANGE, OWN_ZONE, BACKUP, DELAY];
+const AT_A_ROW: [u64; 5] = [RANGE, OWN_ZONE, BACKUP, CURVE, DELAY];
 
 /// The row that is refused, and the number.
 const REFUSED: Group = Group {
@@ -75,7 +75,7 @@ const REKEYED: Group = Group {
     label: |item| format!("{} to {}:", side(item.0), side(item.1)),
 };
 
-/// By whether the new row is keyed in secondary mA. Of delays it asks nothing.
+/// By whether the new row is keyed in secondary mA.
 const REKEYED_REFUSED: Group = Group {
     name: "rows keyed otherwise in series and refused",
     wanted: || {
@@ -139,14 +139,7 @@ fn note_row_refused(group: &Group, list: &[u64], answer: Answer, seen: &mut Seen
     }
 }
 
-/// A change by the list before it, the answer to it, and the cards before and after.
-pub fn note_change(
-    list: &[u64],
-    change: &Change,
-    answer: Answer,
-    cards: [&[u64]; 2],
-    seen: &mut Seen,
-) {
+pub fn note_change(&Step { list, change, answer, cards }: &Step, seen: &mut Seen) {
     let Some(made) = edited(list, change.place, &change.row) else { return };
     note_row_refused(&REFUSED_IN_SERIES, &made, answer, seen);
     let at = change.place as usize - 1;

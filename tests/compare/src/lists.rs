@@ -1,8 +1,8 @@
-//! Whole calculations of lists [01 §4, 02 §1, §2].
+//! Whole calculations of lists [01 §4, 02 §1, §2, §3].
 
 use crate::answers::{agree, item_of, items_of, label};
 use crate::run::{Found, Group, Item, Kind, Seen};
-use crate::{boundary, keyed};
+use crate::{boundary, keyed, laws};
 use second::answer::*;
 use second::generate::*;
 use second::row::{BOUNDS, CARD_NUMBERS, FIELDS, MOST_ROWS};
@@ -10,7 +10,7 @@ use second::whole::whole;
 
 pub const NUMBERS: Group = Group {
     name: "numbers given back",
-    wanted: || items_of(&[DONE, COUNT, ROOM, FIELD, TREE, RANGE, OWN_ZONE, BACKUP, DELAY]),
+    wanted: || items_of(&[DONE, COUNT, ROOM, FIELD, TREE, RANGE, OWN_ZONE, BACKUP, CURVE, DELAY]),
     label,
 };
 
@@ -54,7 +54,7 @@ pub const KINDS: [Kind; 10] = [
         case: |_, seed, seen| done(same(&damaged(seed), seen)),
     },
     Kind { name: "fields at their bounds", cases: 120, case: bounds },
-    Kind { name: "lengths", cases: 5_500, case: length },
+    Kind { name: "lengths", cases: 6_000, case: length },
     Kind { name: "rooms", cases: 1_500, case: rooms },
 ];
 
@@ -78,7 +78,10 @@ pub fn same(lent: &Lent, seen: &mut Seen) -> Result<Answer, String> {
     }
     note(&lent.list, answer, seen);
     match answer {
-        Answer::DONE => keyed::note_accepted(&lent.list, &card, seen),
+        Answer::DONE => {
+            keyed::note_accepted(&lent.list, &card, seen);
+            laws::note_accepted(&lent.list, &card, seen);
+        }
         refusal => keyed::note_refused(&lent.list, refusal, seen),
     }
     Ok(answer)

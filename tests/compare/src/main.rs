@@ -5,8 +5,8 @@
 use compare::run::{Score, Seen};
 use compare::singles::{self, Part};
 use compare::{
-    answers, boundary, causes, changes, climbs, competing, differentials, edges, keyed, lists,
-    ratios, studies, texts, verdicts,
+    alone, answers, boundary, causes, changes, climbs, competing, differentials, edges, keyed,
+    laws, lists, multiples, ratios, resting, studies, texts, times, verdicts,
 };
 use std::process::ExitCode;
 use std::time::{Instant, SystemTime, UNIX_EPOCH};
@@ -61,41 +61,66 @@ fn today() -> u64 {
 
 fn compare_all(seed: u64, Length { passes, all_singles }: Length) -> ExitCode {
     println!("seed {seed}");
-    let (mut score, mut whole) = (Score::default(), Seen::default());
-    let (mut study, mut text, mut change) = (Seen::default(), Seen::default(), Seen::default());
-    let mut differential = Seen::default();
+    let mut score = Score::default();
     let [library, header] = boundary::versions();
     score.count(library == header, &format!("version {library}, the header's {header}"));
     answers::check_header(&mut score);
+    compare_lists(&mut score, seed, passes);
+    compare_replacements(&mut score, seed, passes);
+    let (mut study, mut differential) = (Seen::default(), Seen::default());
+    score.run(&studies::KINDS, seed, passes, &mut study);
+    score.check_all(&studies::GROUPS, &study);
+    score.run(&differentials::KINDS, seed, passes, &mut differential);
+    score.check_all(&differentials::GROUPS, &differential);
+    score.check_all(&verdicts::GROUPS, &differential);
+    compare_texts(&mut score, seed, passes);
+    timed("times of both curves at every M, ms", &mut score, || times::compare(seed));
+    compare_singles(if all_singles { singles::ALL } else { Part::of_seed(seed) }, &mut score);
+    println!("compare: {} passed, {} failed", score.passed, score.failed);
+    ExitCode::from(u8::from(score.failed > 0))
+}
+
+fn compare_lists(score: &mut Score, seed: u64, passes: u64) {
+    let mut whole = Seen::default();
     score.run(&lists::KINDS, seed, passes, &mut whole);
-    let more = [edges::LISTS, ratios::LISTS, causes::LISTS, competing::LISTS];
+    let more = [edges::LISTS, ratios::LISTS, multiples::LISTS, causes::LISTS, competing::LISTS];
     score.run(&more, seed, passes, &mut whole);
     let share = 100 * whole.accepted / whole.compared.max(1);
     let line = format!("{} lists, {} accepted, {share} percent", whole.compared, whole.accepted);
     score.count((30..=70).contains(&share), &line);
     score.check_all(&lists::GROUPS, &whole);
     score.check_all(&keyed::OF_LISTS, &whole);
+    score.check_all(&laws::OF_LISTS, &whole);
     score.check_all(&edges::OF_LISTS, &whole);
     score.check_all(&ratios::OF_LISTS, &whole);
+    score.check_all(&multiples::OF_LISTS, &whole);
     score.check(&causes::IN_LISTS, &whole);
     score.check_all(&competing::OF_LISTS, &whole);
+}
+
+fn compare_replacements(score: &mut Score, seed: u64, passes: u64) {
+    let mut change = Seen::default();
     score.run(&changes::KINDS, seed, passes, &mut change);
     score.run(&ratios::REPLACEMENTS, seed, passes, &mut change);
-    let more = [edges::REPLACEMENTS, causes::REPLACEMENTS, competing::REPLACEMENTS];
+    score.run(&multiples::REPLACEMENTS, seed, passes, &mut change);
+    let more =
+        [resting::REPLACEMENTS, edges::REPLACEMENTS, causes::REPLACEMENTS, competing::REPLACEMENTS];
     score.run(&more, seed, passes, &mut change);
     score.check_all(&changes::GROUPS, &change);
-    changes::check_refused(&mut score, &change);
+    changes::check_refused(score, &change);
     score.check_all(&climbs::GROUPS, &change);
+    score.check_all(&alone::GROUPS, &change);
     score.check_all(&keyed::OF_REPLACEMENTS, &change);
     score.check_all(&edges::OF_REPLACEMENTS, &change);
     score.check_all(&ratios::OF_REPLACEMENTS, &change);
+    score.check_all(&multiples::OF_REPLACEMENTS, &change);
+    score.check(&resting::ORDERS, &change);
     score.check(&causes::IN_REPLACEMENTS, &change);
     score.check_all(&competing::OF_REPLACEMENTS, &change);
-    score.run(&studies::KINDS, seed, passes, &mut study);
-    score.check_all(&studies::GROUPS, &study);
-    score.run(&differentials::KINDS, seed, passes, &mut differential);
-    score.check_all(&differentials::GROUPS, &differential);
-    score.check_all(&verdicts::GROUPS, &differential);
+}
+
+fn compare_texts(score: &mut Score, seed: u64, passes: u64) {
+    let mut text = Seen::default();
     score.run(&texts::KINDS, seed, passes, &mut text);
     score.run(&causes::TEXTS, seed, passes, &mut text);
     score.run(&[ratios::TEXTS], seed, passes, &mut text);
@@ -104,21 +129,21 @@ fn compare_all(seed: u64, Length { passes, all_singles }: Length) -> ExitCode {
     score.check_all(&texts::GROUPS, &text);
     score.check(&causes::IN_TEXTS, &text);
     score.check_all(&ratios::OF_TEXTS, &text);
-    compare_singles(if all_singles { singles::ALL } else { Part::of_seed(seed) }, &mut score);
-    println!("compare: {} passed, {} failed", score.passed, score.failed);
-    ExitCode::from(u8::from(score.failed > 0))
 }
 
 fn compare_singles(part: Part, score: &mut Score) {
-    let (start, step) = (Instant::now(), part.step);
-    let found = singles::compare(part);
+    let name = format!("singles, one in {}, readings", part.step);
+    timed(&name, score, || singles::compare(part));
+}
+
+/// One test: how many were compared, in how many seconds.
+fn timed(name: &str, score: &mut Score, compare: impl FnOnce() -> Result<u64, String>) {
+    let start = Instant::now();
+    let found = compare();
     let seconds = start.elapsed().as_secs_f64();
     match found {
-        Ok(compared) => {
-            let line = format!("singles, one in {step}: {compared} readings, {seconds:.1} s");
-            score.count(true, &line);
-        }
-        Err(difference) => score.count(false, &format!("singles: {difference}")),
+        Ok(compared) => score.count(true, &format!("{name}: {compared}, {seconds:.1} s")),
+        Err(difference) => score.count(false, &format!("{name}: {difference}")),
     }
 }
 

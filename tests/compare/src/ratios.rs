@@ -1,14 +1,17 @@
-//! Fields about a row's ratio and the limits of CARD [02 §1], each with what must be
-//! given, in lists, replacements and texts.
+//! Fields about a row's ratio, law and near end, and the limits of CARD [02 §1, §3], each
+//! with what must be given, in lists, replacements and texts.
 
 use crate::answers::name_of;
 use crate::boundary::CARD_ROOM;
+use crate::climbs::COLUMNS;
 use crate::run::{Found, Group, Item, Kind, Seen};
 use crate::{changes, lists, texts};
 use second::answer::*;
 use second::current::{Fraction, Primary};
+use second::curve::DEFINITE;
 use second::generate::*;
 use second::row::{field, Bound, Row, CARD_NUMBERS, FIELDS, MOST_CURRENT};
+use second::whole::Settings;
 
 /// By the place in RATIO_CASES.
 const IN_LISTS: Group = Group {
@@ -52,7 +55,7 @@ const CARDS: Group = Group {
         let (before, after) = (side(was_secondary), side(is_secondary));
         let row = if is_replaced { "replaced" } else { "other" };
         let given = if is_refused { "CARD" } else { "let in" };
-        let column = ["pickup", "delay", "cutoff"][column];
+        let column = COLUMNS[column];
         format!("{row} row {before} then {after}, {column} {value} {given}:")
     },
 };
@@ -61,7 +64,7 @@ const CARDS: Group = Group {
 /// replaced row, and what was given.
 const GREATEST: Group = Group {
     name: "replacements above a lent pickup of over 100,000,000 primary mA",
-    wanted: || [DONE, RANGE, OWN_ZONE, DELAY].map(|number| (number, 0)).to_vec(),
+    wanted: || [DONE, RANGE, OWN_ZONE, CURVE, DELAY].map(|number| (number, 0)).to_vec(),
     label: |item| name_of(item.0).to_string(),
 };
 
@@ -74,7 +77,7 @@ pub const LISTS: Kind = Kind { name: "fields about a ratio", cases: 60, case: of
 pub const REPLACEMENTS: [Kind; 3] = [
     Kind { name: "replacements with fields about a ratio", cases: 60, case: of_replacement },
     Kind { name: "cards at their limits", cases: 40, case: of_card },
-    Kind { name: "cards with the greatest numbers", cases: 60_000, case: greatest },
+    Kind { name: "cards with the greatest numbers", cases: 100_000, case: greatest },
 ];
 
 pub const TEXTS: Kind = Kind { name: "texts with fields about a ratio", cases: 20, case: of_text };
@@ -172,7 +175,10 @@ fn greatest(_: u64, seed: u64, seen: &mut Seen) -> Found {
     let list = corners(rng.any());
     let rows: Vec<Row> = list.as_chunks().0.iter().map(Row::read).collect();
     let number = |bound: Bound| rng.pick(&[bound.greatest, bound.greatest, bound.least]);
-    let card: Vec<u64> = rows.iter().flat_map(Row::card_bounds).map(number).collect();
+    let mut card: Vec<u64> = rows.iter().flat_map(Row::card_bounds).map(number).collect();
+    for row in card.as_chunks_mut::<CARD_NUMBERS>().0.iter_mut().filter(|_| rng.chance(70)) {
+        *row = Settings { law: DEFINITE, ..Settings::read(row) }.numbers();
+    }
     let place = rng.between(rows.len().min(2) as u64, rows.len() as u64);
     let row = rows[place as usize - 1].numbers().to_vec();
     let change = Change { place, row };

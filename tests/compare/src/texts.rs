@@ -1,4 +1,4 @@
-//! Texts of lists and what is printed of them [01 §6, 02 §2].
+//! Texts of lists and what is printed of them [01 §6, 02 §2, §3].
 
 use crate::answers::{agree, name_of, NAMING};
 use crate::boundary::{self, CARD_ROOM};
@@ -15,7 +15,7 @@ use std::cmp::Ordering;
 pub const NUMBERS: Group = Group {
     name: "numbers given of texts",
     wanted: || {
-        let rows = [TEXT, TREE, RANGE, OWN_ZONE, DELAY].map(|number| (number, 1));
+        let rows = [TEXT, TREE, RANGE, OWN_ZONE, CURVE, DELAY].map(|number| (number, 1));
         let more = NAMING.map(|number| (number, 2));
         [&[(DONE, 0), (TEXT, 0), (COUNT, 0), (ROOM, 0)], &rows[..], &more].concat()
     },
@@ -39,7 +39,7 @@ pub const ROOMS: Group = Group {
 pub const PAIRS: Group = Group {
     name: "competing refusals of texts",
     wanted: || {
-        let under = [COUNT, FIELD, TREE, RANGE, OWN_ZONE, BACKUP, DELAY];
+        let under = [COUNT, FIELD, TREE, RANGE, OWN_ZONE, BACKUP, CURVE, DELAY];
         let (line, size) = (under.map(|number| (1, number)), under.map(|number| (0, number)));
         [&line[..], &size, &[(0, TEXT)]].concat()
     },

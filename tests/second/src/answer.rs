@@ -1,4 +1,5 @@
-//! Numbers given back [01 §4], 6 retired for 11 to 13 [02 §2]; 16 and 17 [02 §11].
+//! Numbers given back [01 §4], 6 retired for 11 to 13 [02 §2]; 14 [02 §3]; 16 and 17
+//! [02 §11].
 
 pub const DONE: u64 = 0;
 pub const TEXT: u64 = 1;
@@ -13,6 +14,7 @@ pub const EDIT: u64 = 10;
 pub const RANGE: u64 = 11;
 pub const OWN_ZONE: u64 = 12;
 pub const BACKUP: u64 = 13;
+pub const CURVE: u64 = 14;
 pub const INPUT: u64 = 16;
 pub const SLOPE: u64 = 17;
 

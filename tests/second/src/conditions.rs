@@ -1,8 +1,10 @@
 //! The conditions as section 3 writes them, each a pair of sides, apart from
 //! how an answer is found [01 §3]. Pickups and cutoffs are primary and may be
-//! fractions [02 §1]; all else is whole.
+//! fractions [02 §1]; all else is whole. D1 and D2 are of times, a delay being one
+//! whatever the current [02 §3]; they are asked where every needed M is above 1.000.
 
 use crate::current::{Fraction, Primary};
+use crate::curve::time_at;
 use crate::row::{Row, LINE, MOTOR};
 use crate::whole::Settings;
 
@@ -15,6 +17,11 @@ pub struct Fed {
 impl Fed {
     pub fn pickup(&self) -> Primary {
         self.row.primary(self.settings.pickup)
+    }
+
+    /// ms at the greatest current at its own near end.
+    pub fn time(&self) -> u64 {
+        time_with(&self.row, &self.settings, &self.row)
     }
 }
 
@@ -79,19 +86,25 @@ pub fn backs_up(row: &Row, Primary(pickup): Primary, fed: &Row) -> Option<Sides>
     })
 }
 
+/// ms that a row takes with such settings at the near-end current of a row.
+fn time_with(row: &Row, set: &Settings, at: &Row) -> u64 {
+    time_at(row, set, at).expect("M above 1.000")
+}
+
 /// D1, floor [01 §3].
-pub fn not_below_floor(row: &Row, delay: u64) -> Sides {
-    Sides { greater: whole(delay), lesser: whole(row.floor) }
+pub fn not_below_floor(row: &Row, set: &Settings) -> Sides {
+    Sides { greater: whole(time_with(row, set, row)), lesser: whole(row.floor) }
 }
 
 /// D1, for a motor [01 §3].
-pub fn not_below_motor_delay(row: &Row, delay: u64) -> Option<Sides> {
-    (row.kind == MOTOR).then(|| Sides { greater: whole(delay), lesser: whole(100) })
+pub fn not_below_motor_time(row: &Row, set: &Settings) -> Option<Sides> {
+    let time = || whole(time_with(row, set, row));
+    (row.kind == MOTOR).then(|| Sides { greater: time(), lesser: whole(100) })
 }
 
 /// D1, ceiling [01 §3].
-pub fn not_above_ceiling(row: &Row, delay: u64) -> Sides {
-    Sides { greater: whole(row.ceiling), lesser: whole(delay) }
+pub fn not_above_ceiling(row: &Row, set: &Settings) -> Sides {
+    Sides { greater: whole(row.ceiling), lesser: whole(time_with(row, set, row)) }
 }
 
 /// The step of a row by its device [01 §3 D2].
@@ -108,15 +121,15 @@ pub fn step_between(row: &Row, fed: &Row) -> u64 {
     own_step(row).max(own_step(fed))
 }
 
-/// D2, once for every fed row [01 §3, 02 §5].
+/// D2, once for every fed row, at the greatest current at its near end [01 §3, 02 §3, §5].
 pub fn steps_above_fed_rows<'a>(
     row: &'a Row,
-    delay: u64,
+    set: &'a Settings,
     fed: &'a [Fed],
 ) -> impl Iterator<Item = Sides> + 'a {
     fed.iter().map(move |below| Sides {
-        greater: whole(delay),
-        lesser: whole(below.settings.delay) + whole(step_between(row, &below.row)),
+        greater: whole(time_with(row, set, &below.row)),
+        lesser: whole(below.time()) + whole(step_between(row, &below.row)),
     })
 }
 

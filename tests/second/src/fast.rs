@@ -1,14 +1,19 @@
 //! The whole calculation in one pass over the rows, in u64, as the baseline
-//! for speed [01 §4, 02 §2]. Each finished row adds to what its feeder must heed.
+//! for speed [01 §4, 02 §2, §3]. Each finished row adds to what its feeder must heed;
+//! a curve row visits the rows that it feeds once more, for its M at their currents.
 //!
 //! A rated secondary is 1 or 5, so every primary pickup is a whole number of
 //! fifths of a mA [02 §1]. Past the field tests 11 times the load of 255 rows and
 //! the excess of one, in fifths, stays below 2^60, and by P1 a pickup is above its
-//! row's work.
+//! row's work. A current times volts is at most 5 × 10^13, and a time 100,000 ms.
 
-use crate::answer::{Answer, DELAY, OWN_ZONE, RANGE};
+mod timed;
+
+use crate::answer::{Answer, OWN_ZONE, RANGE};
 use crate::conditions::step_between;
+use crate::curve::DEFINITE;
 use crate::row::*;
+use timed::{current, least_delay, least_multiplier, Beside, Timed, NOTHING_BESIDE};
 
 /// What the fed rows finished so far ask of their feeder.
 #[derive(Clone, Copy)]
@@ -19,11 +24,13 @@ struct Below {
     excess: u64,
     /// Least far × volts over backed rows.
     reach: u64,
-    /// Greatest delay with the step above it.
-    delay: u64,
+    /// Greatest time with the step above it.
+    time: u64,
+    /// The last fed row of a curve row, 0 for none.
+    last: usize,
 }
 
-const NOTHING_BELOW: Below = Below { load: 0, excess: 0, reach: u64::MAX / 50, delay: 0 };
+const NOTHING_BELOW: Below = Below { load: 0, excess: 0, reach: u64::MAX / 50, time: 0, last: 0 };
 
 pub fn whole(list: &[u64], card: &mut [u64]) -> Answer {
     let count = match count_and_room(list.len(), card.len()) {
@@ -35,6 +42,7 @@ pub fn whole(list: &[u64], card: &mut [u64]) -> Answer {
         return read_list(list).expect_err("a faulty field or feeder");
     }
     let mut below = vec![NOTHING_BELOW; count + 1];
+    let mut beside = vec![NOTHING_BESIDE; count + 1];
     let mut settings = Vec::with_capacity(count);
     for (at, numbers) in rows.iter().enumerate() {
         let row = Row::read(numbers);
@@ -42,13 +50,24 @@ pub fn whole(list: &[u64], card: &mut [u64]) -> Answer {
             Ok(pickup) => pickup,
             Err(least) => return refusal(rows, &row, least),
         };
-        let Some(delay) = least_delay(&row, &below[at + 1]) else {
-            return Answer::at(DELAY, row.row);
+        let timed = match row.law {
+            DEFINITE => least_delay(&row, below[at + 1].time),
+            _ => least_multiplier(&row, pickup * fifths(&row), below[at + 1].last, &beside),
+        };
+        let Timed { delay, multiplier, time } = match timed {
+            Ok(timed) => timed,
+            Err(number) => return Answer::at(number, row.row),
         };
         if let Some(feeder) = feeder_of(rows, &row) {
-            heed(&mut below[row.feeds_from as usize], &feeder, &row, pickup, delay);
+            let of_feeder = &mut below[row.feeds_from as usize];
+            heed(of_feeder, &feeder, &row, pickup, time);
+            if feeder.law != DEFINITE {
+                let time = time + step_between(&feeder, &row);
+                beside[at + 1] = Beside { before: of_feeder.last, current: current(&row), time };
+                of_feeder.last = at + 1;
+            }
         }
-        settings.push([pickup, delay, fitted_cutoff(&row)]);
+        settings.push([pickup, delay, fitted_cutoff(&row), row.law, multiplier]);
     }
     let settled = settings.as_flattened();
     card[..settled.len()].copy_from_slice(settled);
@@ -104,13 +123,13 @@ fn feeder_of(rows: &[[u64; FIELDS]], row: &Row) -> Option<Row> {
     rows.get(at).map(Row::read)
 }
 
-fn heed(below: &mut Below, feeder: &Row, row: &Row, pickup: u64, delay: u64) {
+fn heed(below: &mut Below, feeder: &Row, row: &Row, pickup: u64, time: u64) {
     below.load += 5 * row.work * row.volts;
     below.excess = below.excess.max((pickup * fifths(row) - 5 * row.work) * row.volts);
     if row.backed == 1 {
         below.reach = below.reach.min(row.far * row.volts);
     }
-    below.delay = below.delay.max(delay + step_between(feeder, row));
+    below.time = below.time.max(time + step_between(feeder, row));
 }
 
 /// P1 to P4, or else the least pickup for P1 and P2, if any; for the fed row of
@@ -141,13 +160,6 @@ fn refusal(rows: &[[u64; FIELDS]], row: &Row, least: Option<u64>) -> Answer {
     };
     let fed = rows.iter().map(Row::read).find(unseen).expect("the row of least reach");
     Answer::backup(row.row, fed.row)
-}
-
-/// D1 and D2.
-fn least_delay(row: &Row, below: &Below) -> Option<u64> {
-    let motor = if row.kind == MOTOR { 100 } else { 0 };
-    let delay = row.floor.max(motor).max(below.delay);
-    (delay <= row.ceiling).then_some(delay)
 }
 
 fn fitted_cutoff(row: &Row) -> u64 {

@@ -6,6 +6,7 @@ pub mod answer;
 pub mod brute;
 pub mod conditions;
 pub mod current;
+pub mod curve;
 pub mod differential;
 pub mod fast;
 pub mod generate;

@@ -1,8 +1,9 @@
-//! One row of a list, and the tests on the list itself [01 §2, §4, 02 §1]:
+//! One row of a list, and the tests on the list itself [01 §2, §4, 02 §1, §3]:
 //! COUNT, ROOM, FIELD and TREE.
 
 use crate::answer::{Answer, COUNT, ROOM, TREE};
 use crate::current::{Fraction, Primary, Ratio, Secondary};
+use crate::curve::{C, MOST_MULTIPLIER};
 
 pub const MOST_ROWS: usize = 256;
 pub const MOST_CURRENT: u64 = 100_000_000;
@@ -29,8 +30,9 @@ impl Bound {
     }
 }
 
-/// The table of section 2, and the rated currents [02 §1], make the row, its numbers,
-/// their bounds and the field numbers.
+/// The table of section 2, the rated currents [02 §1], the law and the near end's
+/// greatest current [02 §3] make the row, its numbers, their bounds and the field
+/// numbers.
 macro_rules! fields {
     ($($name:ident $number:ident $column:literal $least:literal $greatest:expr;)*) => {
         #[derive(Clone, Copy, Debug, PartialEq, Eq)]
@@ -86,6 +88,8 @@ fields! {
     backed BACKED "backed" 0 1;
     rated_primary RATED_PRIMARY "rated_primary" 0 MOST_RATED;
     rated_secondary RATED_SECONDARY "rated_secondary" 0 5;
+    law LAW "law" 0 C;
+    near_greatest NEAR_GREATEST "near_greatest" 1 MOST_CURRENT;
 }
 
 /// The bounds of the fields where there is a rated primary: low, high and step are
@@ -109,10 +113,12 @@ pub fn bounds_of(numbers: &[u64; FIELDS]) -> &'static [Bound; FIELDS] {
 }
 
 /// The columns of a card row with the bounds of CARD.
-pub const CARD_BOUNDS: [Bound; 3] = [
+pub const CARD_BOUNDS: [Bound; 5] = [
     Bound { column: "pickup", least: 1, greatest: MOST_CURRENT },
     Bound { column: "delay", least: 0, greatest: MOST_DELAY },
     Bound { column: "cutoff", least: 0, greatest: MOST_CURRENT },
+    Bound { column: "law", least: 0, greatest: C },
+    Bound { column: "multiplier", least: 0, greatest: MOST_MULTIPLIER },
 ];
 pub const CARD_NUMBERS: usize = CARD_BOUNDS.len();
 

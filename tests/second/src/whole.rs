@@ -1,32 +1,53 @@
-//! The whole calculation [01 §4, 02 §2].
+//! The whole calculation [01 §4, 02 §2, §3].
 //!
 //! P1, P2, D2, the floor and the cutoff's clearance stay true when the value
 //! rises, P3, P4 and the ceiling when it falls. So the least value for the
-//! first group is the one to test against the second.
+//! first group is the one to test against the second. A curve's multiplier takes
+//! a delay's place: its time rises with it.
 
 pub use crate::answer::Answer;
-use crate::answer::{DELAY, OWN_ZONE, RANGE};
+use crate::answer::{CURVE, DELAY, OWN_ZONE, RANGE};
 use crate::conditions::*;
 use crate::current::Primary;
+use crate::curve::{without_time, DEFINITE, LEAST_MULTIPLIER, MOST_MULTIPLIER};
 use crate::row::{count_and_room, read_list, Row, CARD_NUMBERS, MOST_DELAY};
+use std::ops::RangeInclusive;
 
 /// A card row, its pickup and cutoff as the row's relay is keyed [02 §1]; cutoff 0
-/// is not fitted.
-#[derive(Clone, Copy, Debug, PartialEq, Eq)]
+/// is not fitted. Of delay and multiplier the law reads one [02 §3].
+#[derive(Clone, Copy, Debug, Default, PartialEq, Eq)]
 pub struct Settings {
     pub pickup: u64,
     pub delay: u64,
     pub cutoff: u64,
+    pub law: u64,
+    pub multiplier: u64,
 }
 
 impl Settings {
     pub fn read(numbers: &[u64; CARD_NUMBERS]) -> Settings {
-        let [pickup, delay, cutoff] = *numbers;
-        Settings { pickup, delay, cutoff }
+        let [pickup, delay, cutoff, law, multiplier] = *numbers;
+        Settings { pickup, delay, cutoff, law, multiplier }
     }
 
     pub fn numbers(&self) -> [u64; CARD_NUMBERS] {
-        [self.pickup, self.delay, self.cutoff]
+        [self.pickup, self.delay, self.cutoff, self.law, self.multiplier]
+    }
+
+    /// With that delay or multiplier, by the law; the other of the two is 0.
+    pub fn timed(self, setting: u64) -> Settings {
+        match self.law {
+            DEFINITE => Settings { delay: setting, multiplier: 0, ..self },
+            _ => Settings { delay: 0, multiplier: setting, ..self },
+        }
+    }
+}
+
+/// The delays or multipliers that a relay of that law offers.
+pub fn offered(law: u64) -> RangeInclusive<u64> {
+    match law {
+        DEFINITE => 0..=MOST_DELAY,
+        _ => LEAST_MULTIPLIER..=MOST_MULTIPLIER,
     }
 }
 
@@ -72,9 +93,16 @@ pub fn fed_rows(rows: &[Row], settings: &[Settings], place: u64) -> Vec<Fed> {
 /// there are none.
 pub fn settle(row: &Row, fed: &[Fed]) -> Result<Settings, Answer> {
     let pickup = least_pickup(row, fed)?;
-    let delay = least_delay(row, fed).ok_or(Answer::at(DELAY, row.row))?;
     let cutoff = fitted_cutoff(row).unwrap_or(0);
-    Ok(Settings { pickup, delay, cutoff })
+    timed(row, Settings { pickup, cutoff, law: row.law, ..Settings::default() }, fed)
+}
+
+/// With the least delay or multiplier at that pickup, or why there is none.
+pub fn timed(row: &Row, set: Settings, fed: &[Fed]) -> Result<Settings, Answer> {
+    match without_time(row, row.primary(set.pickup), fed) {
+        Some(place) => Err(Answer::at(CURVE, place)),
+        None => least_timed(row, set, fed).ok_or(Answer::at(DELAY, row.row)),
+    }
 }
 
 fn least_pickup(row: &Row, fed: &[Fed]) -> Result<u64, Answer> {
@@ -94,13 +122,17 @@ fn least_pickup(row: &Row, fed: &[Fed]) -> Result<u64, Answer> {
     }
 }
 
-fn least_delay(row: &Row, fed: &[Fed]) -> Option<u64> {
-    let least = least_step(MOST_DELAY, |delay| {
-        not_below_floor(row, delay).hold()
-            && not_below_motor_delay(row, delay).is_none_or(|sides| sides.hold())
-            && steps_above_fed_rows(row, delay, fed).all(|sides| sides.hold())
+/// With the least delay or multiplier that meets D1 and D2.
+fn least_timed(row: &Row, set: Settings, fed: &[Fed]) -> Option<Settings> {
+    let (first, last) = offered(set.law).into_inner();
+    let timed = |step| set.timed(first + step);
+    let least = least_step(last - first, |step| {
+        let set = timed(step);
+        let holds = not_below_floor(row, &set).hold()
+            && not_below_motor_time(row, &set).is_none_or(|sides| sides.hold());
+        holds && steps_above_fed_rows(row, &set, fed).all(|sides| sides.hold())
     });
-    least.filter(|&delay| not_above_ceiling(row, delay).hold())
+    least.map(timed).filter(|set| not_above_ceiling(row, set).hold())
 }
 
 fn fitted_cutoff(row: &Row) -> Option<u64> {
@@ -116,7 +148,7 @@ fn least_available(row: &Row, holds: impl Fn(Primary) -> bool) -> Option<u64> {
 }
 
 /// The least number from 0 to `last` where `holds`, which stays true once it is.
-fn least_step(last: u64, holds: impl Fn(u64) -> bool) -> Option<u64> {
+pub fn least_step(last: u64, holds: impl Fn(u64) -> bool) -> Option<u64> {
     let (mut from, mut to) = (0, last + 1);
     while from < to {
         let middle = (from + to) / 2;

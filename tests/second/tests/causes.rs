@@ -3,7 +3,7 @@
 
 use second::answer::{Answer, BACKUP, DELAY, FIELD, OWN_ZONE, RANGE};
 use second::replace::{replace, Ledger};
-use second::row::{field::*, numbers_of, Row, FIELDS, LINE};
+use second::row::{field::*, numbers_of, Row, CARD_NUMBERS, FIELDS, LINE};
 use second::whole::whole;
 use second::{fast, generate, text};
 
@@ -32,6 +32,8 @@ fn rows() -> [Row; 3] {
         backed: 1,
         rated_primary: 0,
         rated_secondary: 0,
+        law: 0,
+        near_greatest: 1,
     };
     [
         row(1, 3, 10_000, 100_000, 1_000, 250_800, 100),
@@ -40,7 +42,11 @@ fn rows() -> [Row; 3] {
     ]
 }
 
-const CARD: [u64; 9] = [100_000, 100, 1_300_000, 99_000, 200, 1_300_000, 209_000, 500, 1_300_000];
+const CARD: [u64; 3 * CARD_NUMBERS] = [
+    100_000, 100, 1_300_000, 0, 0, //
+    99_000, 200, 1_300_000, 0, 0, //
+    209_000, 500, 1_300_000, 0, 0,
+];
 
 /// Row, field and value.
 type Change = (usize, usize, u64);
@@ -131,8 +137,8 @@ fn changed(changes: &[Change]) -> Vec<u64> {
 fn check(cases: &[(&[Change], Answer)]) {
     for &(changes, answer) in cases {
         let list = changed(changes);
-        assert_eq!(whole(&list, &mut [0; 9]), answer, "{changes:?}");
-        assert_eq!(fast::whole(&list, &mut [0; 9]), answer, "{changes:?}");
+        assert_eq!(whole(&list, &mut [0; 3 * CARD_NUMBERS]), answer, "{changes:?}");
+        assert_eq!(fast::whole(&list, &mut [0; 3 * CARD_NUMBERS]), answer, "{changes:?}");
         if answer != DONE {
             let Answer { number, place, field } = answer;
             let print = format!("refused,place,field\r\n{number},{place},{field}\r\n");
@@ -142,7 +148,7 @@ fn check(cases: &[(&[Change], Answer)]) {
         let row = (place - 1) * FIELDS..place * FIELDS;
         let mut lent = list.clone();
         lent[row.clone()].copy_from_slice(&changed(&[])[row.clone()]);
-        if whole(&lent, &mut [0; 9]) == DONE {
+        if whole(&lent, &mut [0; 3 * CARD_NUMBERS]) == DONE {
             assert_eq!(Ledger::new(&lent).feed(place as u64, &list[row.clone()]), answer);
         }
         let given = replace(&mut lent, &mut CARD.clone(), place as u64, &list[row]).answer;
@@ -152,7 +158,7 @@ fn check(cases: &[(&[Change], Answer)]) {
 
 #[test]
 fn list_as_it_is() {
-    let mut card = [0; 9];
+    let mut card = [0; 3 * CARD_NUMBERS];
     assert_eq!((whole(&changed(&[]), &mut card), card), (DONE, CARD));
 }
 
@@ -198,5 +204,8 @@ fn backup_by_the_card_as_found() {
 fn third_number_is_a_field_or_a_fed_row() {
     assert_eq!((backup(2).number, backup(2).place, backup(2).field), (BACKUP, 3, 2));
     let bad = changed(&[(2, FAR, 0), (3, FAR, 1)]);
-    assert_eq!(whole(&bad, &mut [0; 9]), Answer { number: FIELD, place: 2, field: 8 });
+    assert_eq!(
+        whole(&bad, &mut [0; 3 * CARD_NUMBERS]),
+        Answer { number: FIELD, place: 2, field: 8 }
+    );
 }

@@ -1,7 +1,8 @@
 //! The oracle against every combination, the linear version and the ledger,
 //! over generated cases; each failure prints its seed.
 
-use second::answer::{Answer, BACKUP, DELAY, DONE, OWN_ZONE, RANGE};
+use second::answer::{Answer, BACKUP, CURVE, DELAY, DONE, OWN_ZONE, RANGE};
+use second::curve::LAWS;
 use second::generate::*;
 use second::replace::{replace, Ledger, Replaced};
 use second::row::{Row, CARD_NUMBERS, FIELDS, MOST_CURRENT};
@@ -32,7 +33,7 @@ fn rows_of(list: &[u64]) -> Vec<Row> {
 
 #[test]
 fn whole_finds_what_trying_all_finds() {
-    let mut seen = BTreeMap::new();
+    let (mut seen, mut laws) = (BTreeMap::new(), BTreeMap::new());
     for seed in 0..1_500 {
         let list = tiny(seed);
         let rows = rows_of(&list);
@@ -46,9 +47,16 @@ fn whole_finds_what_trying_all_finds() {
             Err(refusal) => assert_eq!(answer, refusal, "seed {seed}"),
         }
         *seen.entry((answer.number, answer.place, answer.field)).or_insert(0) += 1;
+        for row in rows.iter().filter(|row| row.feeds_from != 0) {
+            let above = rows[row.feeds_from as usize - 1].law;
+            *laws.entry((above, row.law, answer.number == DONE)).or_insert(0) += 1;
+        }
     }
     println!("tiny lists by (number, place, field): {seen:?}");
-    let in_each_row = [RANGE, OWN_ZONE, DELAY];
+    println!("fed rows by (law above, law, done): {laws:?}");
+    let pairs = LAWS.iter().flat_map(|&above| LAWS.map(|law| (above, law)));
+    assert!(pairs.into_iter().all(|(above, law)| laws[&(above, law, true)] > 5));
+    let in_each_row = [RANGE, OWN_ZONE, CURVE, DELAY];
     let of_rows = in_each_row.iter().flat_map(|&number| (1..=3).map(move |row| (number, row, 0)));
     let backups = [(BACKUP, 2, 1), (BACKUP, 3, 1), (BACKUP, 3, 2)];
     assert!(of_rows.chain(backups).all(|answer| seen[&answer] > 10));
@@ -64,11 +72,12 @@ fn cause_by_the_least_pickup_is_that_of_every_one() {
     for seed in 0..4_000 {
         let rows = rows_of(&tiny(seed));
         let mut rng = Rng::new(seed);
-        let any = |_: &Row| Settings { pickup: rng.between(1, 40), delay: 0, cutoff: 0 };
+        let any = |_: &Row| Settings { pickup: rng.between(1, 40), ..Settings::default() };
         let settings: Vec<Settings> = rows.iter().map(any).collect();
         for row in &rows {
             let fed = fed_rows(&rows, &settings, row.row);
-            let refusal = settle(row, &fed).err().filter(|answer| answer.number != DELAY);
+            let of_pickup = |answer: &Answer| ![CURVE, DELAY].contains(&answer.number);
+            let refusal = settle(row, &fed).err().filter(of_pickup);
             assert_eq!(refusal, brute::cause(row, &fed), "seed {seed}");
             assert_eq!(refusal.is_none(), brute::some_pickup_fits(row, &fed), "seed {seed}");
             *seen.entry(refusal.map(|answer| (answer.number, answer.field))).or_insert(0) += 1;
@@ -107,7 +116,7 @@ fn linear_version_agrees_at_corners() {
         *seen.entry(answer.number).or_insert(0) += 1;
     }
     println!("lists at corners by number: {seen:?}");
-    let numbers = [DONE, DELAY, RANGE, OWN_ZONE, BACKUP];
+    let numbers = [DONE, DELAY, RANGE, OWN_ZONE, BACKUP, CURVE];
     assert!(seen.keys().copied().eq(numbers) && seen[&DONE] > 100);
 }
 
@@ -168,7 +177,7 @@ fn replacements_agree_with_the_ledger() {
     }
     let total: u64 = seen.values().sum();
     println!("replacements in series by number: {seen:?}");
-    assert!([RANGE, OWN_ZONE, BACKUP].iter().all(|number| seen[number] > 50));
+    assert!([RANGE, OWN_ZONE, BACKUP, CURVE].iter().all(|number| seen[number] > 50));
     let refused = total - seen[&DONE];
     assert!(3 * refused >= total && 5 * refused <= 4 * total);
 }

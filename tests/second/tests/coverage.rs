@@ -2,10 +2,11 @@
 //! ordinary lists are accepted about half the time.
 
 use second::answer::*;
+use second::curve::DEFINITE;
 use second::differential::{differential, BLOCKED, HOLD, SLOPES, TRIP};
 use second::generate::*;
 use second::replace::replace;
-use second::row::{CARD_NUMBERS, FIELDS};
+use second::row::{field, CARD_NUMBERS, FIELDS};
 use second::study::{study, Reading, Unit};
 use second::text::{card, MOST_BYTES};
 use second::whole::whole;
@@ -42,17 +43,34 @@ fn ordinary_lists_are_accepted_about_half_the_time() {
     assert!((600..=1_400).contains(&seen[&DONE]));
 }
 
-/// However they are keyed [02 §1].
+/// However they are keyed [02 §1], of whichever laws [02 §3].
 #[test]
-fn lists_of_each_keying_are_accepted() {
-    for keyed in KEYED {
+fn lists_of_each_keying_and_law_are_accepted() {
+    for (keyed, laws) in KEYED.into_iter().flat_map(|keyed| LAW_MIXES.map(|laws| (keyed, laws))) {
         let accepted = |seed: &u64| {
-            let list = list_keyed(SHAPES[*seed as usize % 4], 1 + seed % 64, keyed, *seed);
+            let list = list_with(SHAPES[*seed as usize % 4], 1 + seed % 64, keyed, laws, *seed);
             answer_for(&list) == Answer::DONE
         };
         let accepted = (0..400).filter(accepted).count();
-        println!("{keyed:?} lists accepted: {accepted} of 400");
+        println!("{keyed:?} {laws:?} lists accepted: {accepted} of 400");
         assert!((120..=280).contains(&accepted));
+    }
+}
+
+/// Of the curve lists that are accepted many have no definite row, at each length.
+#[test]
+fn lists_of_curves_alone_are_accepted() {
+    for (shape, rows) in SHAPES.into_iter().flat_map(|shape| [8, 64, 256].map(|rows| (shape, rows)))
+    {
+        let is_curves = |seed: &u64| {
+            let list = list_with(shape, rows, Keyed::Primary, Laws::Curves, *seed);
+            let law = |row: &[u64; FIELDS]| row[field::LAW - 1];
+            answer_for(&list) == Answer::DONE
+                && list.as_chunks().0.iter().all(|row| law(row) != DEFINITE)
+        };
+        let curves = (0..60).filter(is_curves).count();
+        println!("{shape:?} of {rows} rows, curves alone: {curves} of 60");
+        assert!(curves > 5);
     }
 }
 
@@ -64,7 +82,7 @@ fn primary_lists_are_those_of_earlier_versions() {
     for (shape, rows, seed) in [(0, 64, 3), (1, 128, 4), (2, 256, 5), (3, 256, 6)] {
         let list = list_keyed(SHAPES[shape], rows, Keyed::Primary, seed);
         for row in list.as_chunks::<FIELDS>().0 {
-            assert_eq!(row[18..], [0, 0]);
+            assert_eq!(row[18..], [0, 0, 0, row[9]]);
             row[..18].iter().for_each(|&value| sum = sum.wrapping_mul(31).wrapping_add(value));
         }
     }
@@ -85,7 +103,7 @@ fn whole_calculations_give_every_number_and_field() {
     }
     field_bounds(&list(3), 1).iter().for_each(|list| note(answer_for(list)));
     println!("whole calculations by number: {seen:?}, by field: {fields:?}");
-    assert_seen(&seen, &[DONE, COUNT, ROOM, FIELD, TREE, DELAY, RANGE, OWN_ZONE, BACKUP]);
+    assert_seen(&seen, &[DONE, COUNT, ROOM, FIELD, TREE, DELAY, RANGE, OWN_ZONE, BACKUP, CURVE]);
     assert_seen(&fields, &(1..=FIELDS as u64).collect::<Vec<_>>());
 }
 
@@ -99,7 +117,7 @@ fn replacements_give_every_number_and_field() {
         count(&mut seen, answer.number);
     }
     println!("replacements by number: {seen:?}, by field: {fields:?}");
-    let of_rows = [DELAY, CARD, EDIT, RANGE, OWN_ZONE, BACKUP];
+    let of_rows = [DELAY, CARD, EDIT, RANGE, OWN_ZONE, BACKUP, CURVE];
     assert_seen(&seen, &[&[DONE, COUNT, ROOM, FIELD, TREE], &of_rows[..]].concat());
     assert!((3..=FIELDS as u64).all(|field| fields.contains_key(&field)));
 }
@@ -176,7 +194,7 @@ fn texts_give_every_number_of_theirs() {
         count(&mut seen, printed_number(&text(&damaged(seed).list, seed)));
     }
     println!("texts by number: {seen:?}");
-    assert_seen(&seen, &[DONE, TEXT, COUNT, FIELD, TREE, DELAY, RANGE, OWN_ZONE, BACKUP]);
+    assert_seen(&seen, &[DONE, TEXT, COUNT, FIELD, TREE, DELAY, RANGE, OWN_ZONE, BACKUP, CURVE]);
 }
 
 #[test]

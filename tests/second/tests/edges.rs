@@ -1,4 +1,5 @@
-//! Conditions at equality, and beside a fraction of a mA [02 §1], in generated lists:
+//! Conditions at equality, D1 and D2 by every law [02 §3], and beside a fraction of a mA
+//! [02 §1], in generated lists:
 //! the oracle and the linear version agree there, and one off it the answer is another.
 
 use second::answer::Answer;
@@ -24,7 +25,8 @@ fn check(stands: Stands, conditions: &[Condition]) {
     let mut found = BTreeMap::new();
     for seed in 0..900 {
         let shape = SHAPES[seed as usize % 4];
-        let list = list_keyed(shape, 1 + seed % 12, KEYED[seed as usize % 3], seed);
+        let (keyed, laws) = (KEYED[seed as usize % 3], LAW_MIXES[seed as usize / 12 % 3]);
+        let list = list_with(shape, 1 + seed % 12, keyed, laws, seed);
         for &condition in conditions {
             let Some(edge) = at_edge(&list, condition, stands, seed) else { continue };
             let answers = edge.lists.map(|list| carded(&list));
@@ -64,10 +66,7 @@ fn each_condition_is_met_at_equality() {
 /// The conditions on currents.
 #[test]
 fn each_condition_is_met_beside_a_fraction() {
-    let of_currents = |condition: &Condition| {
-        use Condition::*;
-        !matches!(condition, Floor | MotorDelay | Ceiling | D2(..))
-    };
-    let conditions: Vec<Condition> = CONDITIONS.into_iter().filter(of_currents).collect();
+    let of_currents = CONDITIONS.into_iter().filter(|condition| !condition.is_timed());
+    let conditions: Vec<Condition> = of_currents.collect();
     check(Stands::Between, &conditions);
 }

@@ -32,6 +32,8 @@ fn chain() -> Vec<u64> {
         backed: 0,
         rated_primary: 0,
         rated_secondary: 0,
+        law: 0,
+        near_greatest: 1,
     };
     let (first, last) = (row(1, 2, 100_000, 1_000, 1_000), row(4, 0, 1, 50_000, 0));
     numbers_of(&[first, row(2, 3, 1, 1_000, 0), row(3, 4, 1, 10_000, 0), last])
@@ -41,11 +43,16 @@ type CardRow = [u64; CARD_NUMBERS];
 
 const CUTOFF: u64 = 1_300_000;
 
+/// A definite row's.
+const fn card_row(pickup: u64, delay: u64, cutoff: u64) -> CardRow {
+    [pickup, delay, cutoff, 0, 0]
+}
+
 const CARD: [CardRow; 4] = [
-    [110_000, 1_000, CUTOFF],
-    [121_000, 1_300, CUTOFF],
-    [140_000, 1_600, CUTOFF],
-    [200_000, 1_900, CUTOFF],
+    card_row(110_000, 1_000, CUTOFF),
+    card_row(121_000, 1_300, CUTOFF),
+    card_row(140_000, 1_600, CUTOFF),
+    card_row(200_000, 1_900, CUTOFF),
 ];
 
 /// The chain with some fields changed, and the card with some rows changed; then
@@ -73,11 +80,12 @@ fn give(
 #[test]
 fn rows_past_the_stop_keep_what_they_had() {
     for (lent, change, own) in [
-        ([110_000, 1_000, CUTOFF], (FAR, 800_000), [110_000, 1_000, CUTOFF]),
-        ([110_000, 1_000, CUTOFF], (CLEAR, 900_000), [110_000, 1_000, 1_170_000]),
-        ([7, 8, 9], (ROW, 1), [110_000, 1_000, CUTOFF]),
+        (CARD[0], (FAR, 800_000), CARD[0]),
+        (CARD[0], (CLEAR, 900_000), card_row(110_000, 1_000, 1_170_000)),
+        ([7, 8, 9, 2, 1_500], (ROW, 1), CARD[0]),
     ] {
-        for past in [[1, 0, 0], [77, 5, 9], [100_000_000, 100_000, 100_000_000]] {
+        const MOST: CardRow = [100_000_000, 100_000, 100_000_000, 2, 1_500];
+        for past in [card_row(1, 0, 0), [77, 5, 9, 1, 3], MOST] {
             let given = give(&[], [lent, CARD[1], past, past], change);
             assert_eq!(given, (Replaced::done(2), vec![own, CARD[1], past, past]));
         }
@@ -87,8 +95,9 @@ fn rows_past_the_stop_keep_what_they_had() {
 /// Row 2 is lent what work 100,900 asks of it; on the list's own card it changes.
 #[test]
 fn stop_at_numbers_that_are_not_the_lists() {
-    let lent = [[9, 9, 9], [123_000, 1_300, CUTOFF], [9, 9, 9], [8, 8, 8]];
-    let after = [[111_000, 1_000, CUTOFF], lent[1], lent[2], lent[3]];
+    let second = card_row(123_000, 1_300, CUTOFF);
+    let lent = [[9, 9, 9, 1, 9], second, [9, 9, 9, 2, 9], [8, 8, 8, 0, 8]];
+    let after = [card_row(111_000, 1_000, CUTOFF), lent[1], lent[2], lent[3]];
     assert_eq!(give(&[], lent, (WORK, 100_900)), (Replaced::done(2), after.to_vec()));
     let after = [after[0], after[1], CARD[2], CARD[3]];
     assert_eq!(give(&[], CARD, (WORK, 100_900)), (Replaced::done(3), after.to_vec()));
@@ -96,15 +105,15 @@ fn stop_at_numbers_that_are_not_the_lists() {
 
 /// Row 2 with each choice of its numbers lent one off.
 fn one_off() -> impl Iterator<Item = CardRow> {
-    (1..8).map(|off| [0, 1, 2].map(|at| CARD[1][at] + (off >> at & 1)))
+    (1..32).map(|off| [0, 1, 2, 3, 4].map(|at| CARD[1][at] + (off >> at & 1)))
 }
 
 /// Some of its numbers the same, a row doesn't stop the climb; the next one does.
 #[test]
 fn stop_where_all_numbers_are_equal() {
     for row in one_off() {
-        let lent = [CARD[0], row, CARD[2], [1, 1, 1]];
-        let after = vec![CARD[0], CARD[1], CARD[2], [1, 1, 1]];
+        let lent = [CARD[0], row, CARD[2], [1; CARD_NUMBERS]];
+        let after = vec![CARD[0], CARD[1], CARD[2], [1; CARD_NUMBERS]];
         assert_eq!(give(&[], lent, (ROW, 1)), (Replaced::done(3), after), "{row:?}");
     }
 }
@@ -162,7 +171,7 @@ fn stops_agree_with_a_climb_that_never_stops() {
         let (before, mut card) = (list.clone(), lent.clone());
         let Replaced { answer, rows } = replace(&mut list, &mut card, place, &row);
         assert_eq!(rows != 0, answer == Answer::DONE, "seed {seed}");
-        let of_path = [RANGE, OWN_ZONE, BACKUP, DELAY].contains(&answer.number);
+        let of_path = [RANGE, OWN_ZONE, BACKUP, CURVE, DELAY].contains(&answer.number);
         if answer != Answer::DONE && !of_path {
             continue;
         }

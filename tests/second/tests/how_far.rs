@@ -3,7 +3,7 @@
 use second::answer::*;
 use second::fast;
 use second::replace::{replace, Ledger, Replaced};
-use second::row::{field::*, numbers_of, Row, FIELDS, LINE};
+use second::row::{field::*, numbers_of, Row, CARD_NUMBERS, FIELDS, LINE};
 use second::whole::whole;
 
 const fn row(row: u64, feeds_from: u64, work: u64, low: u64, step: u64, floor: u64) -> Row {
@@ -28,6 +28,8 @@ const fn row(row: u64, feeds_from: u64, work: u64, low: u64, step: u64, floor: u
         backed: 0,
         rated_primary: 0,
         rated_secondary: 0,
+        law: 0,
+        near_greatest: 1,
     }
 }
 
@@ -46,7 +48,7 @@ const PICKUPS: [u64; 4] = [110_000, 121_000, 140_000, 200_000];
 const DELAYS: [u64; 4] = [1_000, 1_300, 2_000, 2_300];
 
 fn card_of(pickups: [u64; 4], delays: [u64; 4]) -> Vec<u64> {
-    (0..4).flat_map(|at| [pickups[at], delays[at], CUTOFF]).collect()
+    (0..4).flat_map(|at| [pickups[at], delays[at], CUTOFF, 0, 0]).collect()
 }
 
 fn own_card() -> Vec<u64> {
@@ -74,7 +76,7 @@ fn new_row(list: &[u64], (place, field, value): Change) -> Vec<u64> {
 /// On an accepted list's own card, where the ledger must count the same.
 fn on_own_card(list: &[u64], change: Change) -> (Replaced, Vec<u64>) {
     let (mut list, row) = (list.to_vec(), new_row(list, change));
-    let mut card = vec![0; 3 * list.len() / FIELDS];
+    let mut card = vec![0; CARD_NUMBERS * list.len() / FIELDS];
     assert_eq!(whole(&list, &mut card), Answer::DONE);
     let mut ledger = Ledger::new(&list);
     let answer = ledger.feed(change.0 as u64, &row);
@@ -150,7 +152,7 @@ fn climb_goes_on_where_the_replaced_card_row_stays() {
     ];
     rows[1].backed = 1;
     let list = numbers_of(&rows);
-    let pickups = |card: &[u64]| [0, 3, 6, 9, 12].map(|at| card[at]);
+    let pickups = |card: &[u64]| [0, 1, 2, 3, 4].map(|at| card[at * CARD_NUMBERS]);
     let (replaced, card) = on_own_card(&list, (2, WORK, 90_900));
     let expected = [100_000, 101_000, 209_990, 250_000, 300_000];
     assert_eq!((replaced, pickups(&card)), (Replaced::done(3), expected));

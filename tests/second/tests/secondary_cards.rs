@@ -38,6 +38,11 @@ fn limits_of_each_card_number() {
     assert!(compared > 5_000);
 }
 
+/// A card of two rows, the first with that pickup.
+fn lent_pickup(pickup: u64) -> [u64; 2 * CARD_NUMBERS] {
+    [pickup, 0, 0, 0, 0, 1, 0, 0, 0, 0]
+}
+
 /// Off the path, 500,000 mA behind 20,000/1 A are 10,000,000,000 mA. At 100 V they ask
 /// 2,200,000 mA at 500,000 V; a secondary mA less asks 2,199,995.6.
 #[test]
@@ -45,14 +50,14 @@ fn greatest_lent_pickup() {
     let feeder = Row { volts: 500_000, ..row(2, 0, PRIMARY, 1) };
     let list = numbers_of(&[row(1, 2, [20_000, 1], 1), feeder]);
     for (lent, pickup) in [(500_000, 2_200_000), (499_999, 2_199_996)] {
-        let mut card = [lent, 0, 0, 1, 0, 0];
+        let mut card = lent_pickup(lent);
         let replaced = replace(&mut list.clone(), &mut card, 2, &feeder.numbers());
-        assert_eq!((replaced, card[0], card[3]), (Replaced::done(1), lent, pickup));
+        assert_eq!((replaced, card[0], card[5]), (Replaced::done(1), lent, pickup));
     }
     // 1.1 times as much at equal volts, which no relay offers.
     let feeder = row(2, 0, PRIMARY, 1);
     let mut list = numbers_of(&[row(1, 2, [20_000, 1], 1), feeder]);
-    let given = replace(&mut list, &mut [500_000, 0, 0, 1, 0, 0], 2, &feeder.numbers());
+    let given = replace(&mut list, &mut lent_pickup(500_000), 2, &feeder.numbers());
     assert_eq!(given, Replaced::refused(Answer::at(RANGE, 2)));
 }
 

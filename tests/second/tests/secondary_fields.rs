@@ -4,7 +4,7 @@ use second::answer::{Answer, FIELD};
 use second::current::{Fraction, Primary, Ratio, Secondary};
 use second::fast;
 use second::generate::{list_keyed, text, with_ratio, Keyed, Shape, RATIO_CASES};
-use second::row::{field::*, Row, FIELDS};
+use second::row::{field::*, Row, CARD_NUMBERS, FIELDS};
 use second::text::printed;
 use second::whole::whole;
 
@@ -16,8 +16,8 @@ fn list() -> Vec<u64> {
 
 /// By both whole calculations.
 fn answer(list: &[u64]) -> Answer {
-    let given = whole(list, &mut [0; 9]);
-    assert_eq!(given, fast::whole(list, &mut [0; 9]));
+    let given = whole(list, &mut [0; 3 * CARD_NUMBERS]);
+    assert_eq!(given, fast::whole(list, &mut [0; 3 * CARD_NUMBERS]));
     given
 }
 

@@ -6,7 +6,7 @@ mod common;
 
 use second::answer::{Answer, OWN_ZONE, RANGE};
 use second::fast;
-use second::row::{numbers_of, Row, LINE, MOTOR, TRANSFORMER};
+use second::row::{numbers_of, Row, CARD_NUMBERS, LINE, MOTOR, TRANSFORMER};
 use second::whole::whole;
 
 /// A row by itself, as `common` has it.
@@ -20,11 +20,11 @@ fn given(rows: &[Row]) -> (Answer, Vec<u64>, Vec<u64>) {
     for (at, row) in rows.iter_mut().enumerate() {
         (row.row, row.feeds_from) = (at as u64 + 1, if at + 1 == count { 0 } else { count as u64 });
     }
-    let (mut card, mut fast_card) = (vec![0; 3 * count], vec![0; 3 * count]);
+    let (mut card, mut fast_card) = (vec![0; CARD_NUMBERS * count], vec![0; CARD_NUMBERS * count]);
     let answer = whole(&numbers_of(&rows), &mut card);
     assert_eq!(answer, fast::whole(&numbers_of(&rows), &mut fast_card));
     assert_eq!(card, fast_card);
-    let column = |of: usize| card.iter().copied().skip(of).step_by(3).collect();
+    let column = |of: usize| card.iter().copied().skip(of).step_by(CARD_NUMBERS).collect();
     (answer, column(0), column(2))
 }
 

@@ -85,16 +85,16 @@ fn study_refusals() {
 }
 
 const TEXT: &str = "row,name,feeds_from,kind,volts,work,selfstart,return,far,clear,near,factor,\
-    low,high,step,device,floor,ceiling,backed,rated_primary,rated_secondary\r\n\
+    low,high,step,device,floor,ceiling,backed,rated_primary,rated_secondary,law,near_greatest\r\n\
     1,F1,2,1,35000,180000,1500,935,900000,1000000,1800000,1300,50000,5000000,1000,1,1900,5000,1,\
-    0,0\r\n\
+    0,0,0,1800000\r\n\
     2,IN,0,1,35000,200000,1500,935,1500000,3300000,5200000,1300,50000,10000000,10000,1,0,3000,0,\
-    0,0\r\n";
+    0,0,0,5200000\r\n";
 
 #[test]
 fn example_of_section_6() {
-    let printed =
-        "name,pickup,delay,cutoff\r\nF1,318000,1900,1300000\r\nIN,360000,2200,4290000\r\n";
+    let printed = "name,pickup,delay,cutoff,law,multiplier\r\n\
+        F1,318000,1900,1300000,0,0\r\nIN,360000,2200,4290000,0,0\r\n";
     assert_eq!(text::card(TEXT.as_bytes()), printed.as_bytes());
     assert_eq!(text::card(TEXT.trim_end().as_bytes()), printed.as_bytes());
 }
@@ -123,12 +123,17 @@ fn refused_texts() {
     assert_eq!(refusal(&TEXT.replace("1,F1,2", "1,F1,0")), "5,1,0");
     assert_eq!(refusal(&TEXT.replace("1500000", "539999")), "12,2,0");
     assert_eq!(refusal(&TEXT.replace(",3000,0", ",2199,0")), "7,2,0");
-    // The layout from before [02 §1], in the header and in a row.
-    assert_eq!(refusal(&TEXT.replace(",rated_primary,rated_secondary", "")), "1,1,0");
-    assert_eq!(refusal(&TEXT.replace(",3000,0,0,0", ",3000,0")), "1,3,0");
-    assert_eq!(refusal(&TEXT.replace(",3000,0,0,0", ",3000,0,0")), "1,3,0");
-    assert_eq!(refusal(&TEXT.replace(",3000,0,0,0", ",3000,0,0,0,0")), "1,3,0");
-    assert_eq!(refusal(&TEXT.replace(",3000,0,0,0", ",3000,0,0,1")), "4,2,20");
+    // The layouts from before [02 §1] and [02 §3], in the header and in a row.
+    let before = ",rated_primary,rated_secondary,law,near_greatest";
+    assert_eq!(refusal(&TEXT.replace(before, "")), "1,1,0");
+    assert_eq!(refusal(&TEXT.replace(",law,near_greatest", "")), "1,1,0");
+    assert_eq!(refusal(&TEXT.replace(",0,0,0,5200000", "")), "1,3,0");
+    assert_eq!(refusal(&TEXT.replace(",0,5200000", "")), "1,3,0");
+    assert_eq!(refusal(&TEXT.replace(",0,5200000", ",0")), "1,3,0");
+    assert_eq!(refusal(&TEXT.replace(",0,5200000", ",0,5200000,0")), "1,3,0");
+    assert_eq!(refusal(&TEXT.replace(",0,0,5200000", ",1,0,5200000")), "4,2,20");
+    assert_eq!(refusal(&TEXT.replace(",0,5200000", ",3,5200000")), "4,2,21");
+    assert_eq!(refusal(&TEXT.replace(",0,5200000", ",0,0")), "4,2,22");
 }
 
 #[test]

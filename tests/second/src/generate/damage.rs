@@ -3,6 +3,7 @@
 use super::lists::{feeders, list, SHAPES};
 use super::Rng;
 use crate::conditions::own_step;
+use crate::curve::{DEFINITE, LAWS};
 use crate::row::*;
 
 /// A list and a card as lent.
@@ -48,13 +49,14 @@ pub fn corners(seed: u64) -> Vec<u64> {
     let count = rng.pick(&[1, 2, 3, 5, MOST_ROWS as u64]);
     let shape = rng.pick(&SHAPES);
     let feeders = feeders(&mut rng, shape, count);
-    let ample = rng.chance(50);
+    let (ample, are_curves) = (rng.chance(50), rng.chance(50));
     let mut rows = Vec::new();
     for (place, &feeds_from) in (1..).zip(&feeders) {
         let mut row = Row::read(&BOUNDS.map(|bound| rng.pick(&[bound.least, bound.greatest])));
         (row.row, row.feeds_from) = (place, feeds_from);
         row.kind = rng.between(LINE, if feeders.contains(&place) { TRANSFORMER } else { MOTOR });
         row.device = rng.between(1, 3);
+        row.law = if are_curves { rng.pick(&LAWS) } else { DEFINITE };
         if row.rated_primary == 0 {
             row.rated_secondary = 0;
         } else {
@@ -69,6 +71,10 @@ pub fn corners(seed: u64) -> Vec<u64> {
             row = Row { low: 1, high: row.most_high(), step: 1, ceiling: MOST_DELAY, ..row };
             row.work = rng.pick(&[1, 1, 60_606_060, 60_606_061]);
             row.floor = rng.pick(&[0, MOST_DELAY - own_step(&row)]);
+            if row.law != DEFINITE {
+                let near_greatest = rng.pick(&[row.work * 3 / 2, MOST_CURRENT]);
+                row = Row { near_greatest: near_greatest.min(MOST_CURRENT), floor: 0, ..row };
+            }
         }
         rows.push(row);
     }

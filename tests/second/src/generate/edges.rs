@@ -1,6 +1,6 @@
 //! Lists in which one condition stands exactly at equality [01 §3, 02 §2], or as
 //! near to it as a fraction of a mA lets it [02 §1], each with its neighbours on
-//! both sides.
+//! both sides. D1 and D2 are met to the ms by every law [02 §3].
 
 mod ready;
 
@@ -8,6 +8,7 @@ use super::{accepted, Rng};
 use crate::answer::{BACKUP, DELAY, OWN_ZONE, RANGE};
 use crate::conditions::*;
 use crate::current::Primary;
+use crate::curve::{B, C, DEFINITE, MOST_MULTIPLIER};
 use crate::row::*;
 use crate::whole::{fed_rows, Settings};
 use ready::ready;
@@ -22,11 +23,16 @@ pub enum Condition {
     RangeP1,
     /// P2 at the greatest available pickup.
     RangeP2,
-    Floor,
-    MotorDelay,
-    Ceiling,
+    /// D1, of a row of that law [02 §3].
+    Floor(u64),
+    MotorTime(u64),
+    Ceiling(u64),
+    /// D1's floor at the greatest multiplier of that curve [02 §3].
+    MostMultiplier(u64),
     /// `D2(d, e)`: of a row of device d above a fed row of device e [02 §5].
     D2(u64, u64),
+    /// The same by their laws [02 §3].
+    D2Laws(u64, u64),
     CutoffClear,
     CutoffNearLine,
     CutoffNearOther,
@@ -42,22 +48,45 @@ impl Condition {
             RangeP1 | RangeP2 => Some(RANGE),
             P3 => Some(OWN_ZONE),
             P4 => Some(BACKUP),
-            MotorDelay | Ceiling | D2(..) => Some(DELAY),
-            P1 | P2 | Floor | CutoffClear | CutoffNearLine | CutoffNearOther => None,
+            MotorTime(_) | Ceiling(_) | MostMultiplier(_) | D2(..) | D2Laws(..) => Some(DELAY),
+            P1 | P2 | Floor(_) | CutoffClear | CutoffNearLine | CutoffNearOther => None,
+        }
+    }
+
+    /// Whether it is on times.
+    pub fn is_timed(self) -> bool {
+        let of_own = matches!(self, Floor(_) | MotorTime(_) | Ceiling(_) | MostMultiplier(_));
+        of_own || matches!(self, D2(..) | D2Laws(..))
+    }
+
+    /// Of D2, whether it is the one between a row and one that it feeds.
+    fn is_between(self, row: &Row, fed: &Row) -> bool {
+        match self {
+            D2(feeding, under) => (row.device, fed.device) == (feeding, under),
+            D2Laws(feeding, under) => (row.law, fed.law) == (feeding, under),
+            _ => false,
         }
     }
 }
 
-pub const CONDITIONS: [Condition; 21] = [
+pub const CONDITIONS: [Condition; 38] = [
     P1,
     P2,
     P3,
     P4,
     RangeP1,
     RangeP2,
-    Floor,
-    MotorDelay,
-    Ceiling,
+    Floor(DEFINITE),
+    Floor(B),
+    Floor(C),
+    MotorTime(DEFINITE),
+    MotorTime(B),
+    MotorTime(C),
+    Ceiling(DEFINITE),
+    Ceiling(B),
+    Ceiling(C),
+    MostMultiplier(B),
+    MostMultiplier(C),
     D2(1, 1),
     D2(1, 2),
     D2(1, 3),
@@ -67,6 +96,15 @@ pub const CONDITIONS: [Condition; 21] = [
     D2(3, 1),
     D2(3, 2),
     D2(3, 3),
+    D2Laws(DEFINITE, DEFINITE),
+    D2Laws(DEFINITE, B),
+    D2Laws(DEFINITE, C),
+    D2Laws(B, DEFINITE),
+    D2Laws(B, B),
+    D2Laws(B, C),
+    D2Laws(C, DEFINITE),
+    D2Laws(C, B),
+    D2Laws(C, C),
     CutoffClear,
     CutoffNearLine,
     CutoffNearOther,
@@ -161,12 +199,16 @@ fn judged_at(rows: &[Row], settings: &[Settings], at: usize, condition: Conditio
             let sides = fed.iter().filter_map(|below| backs_up(row, pickup, &below.row));
             sides.map(|sides| of(sides, pickup)).collect()
         }
-        Floor => vec![timed(not_below_floor(row, set.delay))],
-        MotorDelay => not_below_motor_delay(row, set.delay).into_iter().map(timed).collect(),
-        Ceiling => vec![timed(not_above_ceiling(row, set.delay))],
-        D2(feeding, under) => {
-            fed.retain(|below| (row.device, below.row.device) == (feeding, under));
-            steps_above_fed_rows(row, set.delay, &fed).map(timed).collect()
+        Floor(law) | MotorTime(law) | Ceiling(law) | MostMultiplier(law) if law != row.law => {
+            Vec::new()
+        }
+        MostMultiplier(_) if set.multiplier != MOST_MULTIPLIER => Vec::new(),
+        Floor(_) | MostMultiplier(_) => vec![timed(not_below_floor(row, set))],
+        MotorTime(_) => not_below_motor_time(row, set).into_iter().map(timed).collect(),
+        Ceiling(_) => vec![timed(not_above_ceiling(row, set))],
+        D2(..) | D2Laws(..) => {
+            fed.retain(|below| condition.is_between(row, &below.row));
+            steps_above_fed_rows(row, set, &fed).map(timed).collect()
         }
         CutoffClear | CutoffNearLine | CutoffNearOther if set.cutoff == 0 => Vec::new(),
         CutoffClear => vec![of(cutoff_stays_clear(row, cutoff), cutoff)],

@@ -1,10 +1,12 @@
 //! Plausible lists: trees, chains and stars, walked from the far end with the
 //! least settings so far, so that margins can be laid on each condition.
 
+use super::laws::{lay_laws, over, Laws};
 use super::ratios::{key_in_secondary, Keyed};
 use super::Rng;
 use crate::conditions::{asked_by_fed_rows, Fed};
 use crate::current::{Fraction, Primary};
+use crate::curve::DEFINITE;
 use crate::row::*;
 use crate::whole::{fed_rows, settle, Settings};
 
@@ -22,7 +24,7 @@ pub const SHAPES: [Shape; 4] = [Shape::Tree, Shape::Deep, Shape::Chain, Shape::S
 
 /// What a list is made to fail by, at one row.
 #[derive(Clone, Copy, PartialEq, Eq)]
-enum Fault {
+pub enum Fault {
     Zone,
     Backup,
     Range,
@@ -38,17 +40,23 @@ pub fn list(seed: u64) -> Vec<u64> {
     list_shaped(shape, count, rng.any())
 }
 
-/// A list keyed in any way.
+/// A list keyed in any way, with any laws.
 pub fn list_shaped(shape: Shape, count: u64, seed: u64) -> Vec<u64> {
-    list_keyed(shape, count, Keyed::of_seed(seed), seed)
+    list_with(shape, count, Keyed::of_seed(seed), Laws::of_seed(seed), seed)
 }
 
-/// The ratios have their numbers from a stream of their own: all in primary, the
-/// lists are those of earlier versions with two zeros to a row, and times compare.
+/// A list of definite rows.
 pub fn list_keyed(shape: Shape, count: u64, keyed: Keyed, seed: u64) -> Vec<u64> {
+    list_with(shape, count, keyed, Laws::Definite, seed)
+}
+
+/// Ratios and laws have their numbers from streams of their own: all primary and definite,
+/// the lists are those of earlier versions with four fields more, and times compare.
+pub fn list_with(shape: Shape, count: u64, keyed: Keyed, laws: Laws, seed: u64) -> Vec<u64> {
     let (mut rng, mut ratios) = (Rng::new(seed), Rng::new(!seed));
     let feeders = feeders(&mut rng, shape, count);
     let depth = depth(&feeders);
+    let least_volts = if laws != Laws::Definite && count > LONG { MANY_VOLTS } else { 0 };
     let faults = [Fault::Zone, Fault::Backup, Fault::Range, Fault::Ceiling];
     let fault = rng.chance(65).then(|| (rng.between(1, count), rng.pick(&faults)));
     let (mut rows, mut settings) = (Vec::new(), Vec::new());
@@ -56,7 +64,7 @@ pub fn list_keyed(shape: Shape, count: u64, keyed: Keyed, seed: u64) -> Vec<u64>
         let is_leaf = !feeders.contains(&place);
         let fed = fed_rows(&rows, &settings, place);
         let fault = fault.filter(|&(row, _)| row == place).map(|(_, fault)| fault);
-        let mut row = draft(&mut rng, depth, is_leaf, &fed);
+        let mut row = draft(&mut rng, depth, is_leaf, least_volts, &fed);
         (row.row, row.feeds_from) = (place, feeds_from);
         if keyed.is_secondary(&mut ratios) {
             key_in_secondary(&mut ratios, &mut row, asked(&fed), depth > LONG);
@@ -69,6 +77,9 @@ pub fn list_keyed(shape: Shape, count: u64, keyed: Keyed, seed: u64) -> Vec<u64>
         settings.push(set);
     }
     rows[feeders.len() - 1].backed = rng.below(2);
+    if laws != Laws::Definite {
+        lay_laws(&mut Rng::new(seed.rotate_left(32)), laws, &mut rows, &settings, fault);
+    }
     numbers_of(&rows)
 }
 
@@ -94,6 +105,8 @@ fn depth(feeders: &[u64]) -> u64 {
 
 /// On a longer path too much would be lost to rounding.
 const LONG: u64 = 40;
+/// With less in so many curve rows the near-end currents would be past all bounds.
+const MANY_VOLTS: u64 = 6_000;
 
 /// Pickup × volts that P2 asks for.
 fn asked(fed: &[Fed]) -> u64 {
@@ -101,10 +114,11 @@ fn asked(fed: &[Fed]) -> u64 {
 }
 
 /// A row before its margins, with the widest bounds.
-fn draft(rng: &mut Rng, depth: u64, is_leaf: bool, fed: &[Fed]) -> Row {
+fn draft(rng: &mut Rng, depth: u64, is_leaf: bool, least_volts: u64, fed: &[Fed]) -> Row {
     let kind = if is_leaf { rng.between(LINE, MOTOR) } else { rng.between(LINE, TRANSFORMER) };
     let is_long = depth > LONG;
-    let (volts, work, step) = if is_long { lean(rng, depth, fed) } else { ample(rng, fed) };
+    let (volts, work, step) =
+        if is_long { lean(rng, depth, fed) } else { ample(rng, least_volts, fed) };
     let selfstart = if is_long { 1_000 } else { 100 * rng.between(10, 30) };
     let return_factor = if is_long { 1_000 } else { rng.pick(&[935, 935, 950, 1_000, 880, 817]) };
     let bound = 11 * selfstart * work / (10 * return_factor);
@@ -131,16 +145,18 @@ fn draft(rng: &mut Rng, depth: u64, is_leaf: bool, fed: &[Fed]) -> Row {
         backed: 0,
         rated_primary: 0,
         rated_secondary: 0,
+        law: DEFINITE,
+        near_greatest: 1,
     }
 }
 
 /// Volts, work and step of an ordinary row, fed rows at the same volts or lower.
-fn ample(rng: &mut Rng, fed: &[Fed]) -> (u64, u64, u64) {
+fn ample(rng: &mut Rng, least_volts: u64, fed: &[Fed]) -> (u64, u64, u64) {
     const STANDARD: [u64; 7] = [380, 400, 6_000, 10_000, 35_000, 110_000, 500_000];
     let step = rng.pick(&[1, 10, 100, 1_000, 1_000, 5_000]);
     let round = |work: u64| if work > 20_000 { work / 1_000 * 1_000 } else { work.max(1) };
     if fed.is_empty() {
-        let volts = rng.pick(&STANDARD[..5]);
+        let volts = rng.pick(&STANDARD[..5]).max(least_volts);
         let power = rng.between(1, 1_000) * rng.pick(&[1_000, 100_000, 1_000_000]);
         return (volts, round(power / volts), step);
     }
@@ -182,7 +198,7 @@ fn lay_margins(rng: &mut Rng, row: &mut Row, fed: &[Fed], fault: Option<Fault>) 
         let pickup = keyed_at(row, 3 * asked(fed) / (2 * row.volts));
         row.low = row.low.max(pickup).min(row.most_high());
     }
-    let widest = Settings { pickup: row.high, delay: row.ceiling, cutoff: 0 };
+    let widest = Settings { pickup: row.high, delay: row.ceiling, ..Settings::default() };
     let set = settle(row, fed).unwrap_or(widest);
     let pickup = row.primary(set.pickup);
     let most = |current: u64| current.clamp(1, MOST_CURRENT);
@@ -194,6 +210,7 @@ fn lay_margins(rng: &mut Rng, row: &mut Row, fed: &[Fed], fault: Option<Fault>) 
     let cutoff = row.low + bound.saturating_sub(row.low).div_ceil(row.step) * row.step;
     let tenths = rng.pick(&[10, 12, 12, 13, 20, 20, 30]);
     row.near = most((row.primary(cutoff).0 * tenths).over(10).down());
+    row.near_greatest = row.near;
     row.ceiling = over(rng, set.delay).min(MOST_DELAY);
     match fault {
         Some(Fault::Zone) => row.far = most(zone_bound(pickup) - 1),
@@ -202,11 +219,6 @@ fn lay_margins(rng: &mut Rng, row: &mut Row, fed: &[Fed], fault: Option<Fault>) 
         _ => {}
     }
     set
-}
-
-/// A value at or above the bound.
-fn over(rng: &mut Rng, bound: u64) -> u64 {
-    bound * rng.pick(&[100, 100, 105, 130, 200, 300]) / 100
 }
 
 /// The far that P4 asks of a fed row.

@@ -1,5 +1,6 @@
 //! One number of a lent card at the limits of CARD, by how its row is keyed in the
-//! list before a replacement and after it [02 §1].
+//! list before a replacement and after it [02 §1]; law and multiplier among them
+//! [02 §3].
 
 use super::ratios::behind;
 use super::{Change, Replacement};
@@ -31,11 +32,13 @@ pub fn card_cases() -> Vec<CardCase> {
 }
 
 fn cases_of(is_replaced: bool, was_secondary: bool, is_secondary: bool) -> Vec<CardCase> {
-    let least = [1, 0, 0];
+    let least = [1, 0, 0, 0, 0];
     let current = if is_secondary && !is_replaced { 500_000 } else { 100_000_000 };
-    let most = [current, 100_000, current];
+    let most = [current, 100_000, current, 2, 1_500];
     let currents = &[0, 1, 500_000, 500_001, 100_000_000, 100_000_001][..];
-    let values = [currents, &[0, 100_000, 100_001], currents];
+    let laws = &[0, 1, 2, 3, u64::MAX][..];
+    let multipliers = &[0, 9, 10, 1_500, 1_501, u64::MAX][..];
+    let values = [currents, &[0, 100_000, 100_001], currents, laws, multipliers];
     let case = |column: usize, value: u64| {
         let is_refused = value < least[column] || value > most[column];
         CardCase { is_replaced, was_secondary, is_secondary, column, value, is_refused }

@@ -1,4 +1,5 @@
-//! Fields of one row about its ratio, and the one that FIELD must name, by hand [02 §1].
+//! Fields of one row about its ratio [02 §1], its law and its near end [02 §3], and the
+//! one that FIELD must name, by hand.
 
 use crate::row::{field::*, Row, FIELDS};
 
@@ -41,7 +42,7 @@ const COARSE: (usize, u64) = (RATED_PRIMARY, 20_000);
 const OVER_1_A: (usize, u64) = (RATED_SECONDARY, 1);
 const TOO_HIGH: (usize, u64) = (HIGH, 5_001);
 
-pub const RATIO_CASES: [RatioCase; 80] = [
+pub const RATIO_CASES: [RatioCase; 99] = [
     done(&[]),
     // low, high and step with a ratio, and without
     done(&[(LOW, 500_000), (HIGH, 500_000)]),
@@ -129,4 +130,25 @@ pub const RATIO_CASES: [RatioCase; 80] = [
     named(BACKED, &[COARSE, OVER_1_A, TOO_HIGH, (BACKED, 2)]),
     named(RATED_PRIMARY, &[(RATED_PRIMARY, 20_001), OVER_1_A, TOO_HIGH]),
     named(RATED_SECONDARY, &[COARSE, TOO_HIGH, (RATED_SECONDARY, 2)]),
+    named(LAW, &[COARSE, OVER_1_A, TOO_HIGH, (LAW, 3)]),
+    named(NEAR_GREATEST, &[COARSE, OVER_1_A, TOO_HIGH, (NEAR_GREATEST, 0)]),
+    // the law, and the greatest current at the near end, whatever the law
+    done(&[(LAW, 0)]),
+    done(&[(LAW, 1)]),
+    done(&[(LAW, 2)]),
+    named(LAW, &[(LAW, 3)]),
+    named(LAW, &[(LAW, MAX)]),
+    done(&[(NEAR_GREATEST, 1)]),
+    done(&[(NEAR_GREATEST, 100_000_000)]),
+    named(NEAR_GREATEST, &[(LAW, 0), (NEAR_GREATEST, 0)]),
+    named(NEAR_GREATEST, &[(LAW, 1), (NEAR_GREATEST, 0)]),
+    named(NEAR_GREATEST, &[(LAW, 2), (NEAR_GREATEST, 0)]),
+    named(NEAR_GREATEST, &[(NEAR_GREATEST, 100_000_001)]),
+    named(NEAR_GREATEST, &[NO_PRIMARY, NO_SECONDARY, (LAW, 2), (NEAR_GREATEST, MAX)]),
+    // after the ratings, each before the next, and before low above high
+    named(RATED_SECONDARY, &[NO_SECONDARY, (LAW, 3), (NEAR_GREATEST, 0)]),
+    named(RATED_PRIMARY, &[(RATED_PRIMARY, 20_001), (NEAR_GREATEST, 0)]),
+    named(LAW, &[(LAW, 3), (NEAR_GREATEST, 0), (LOW, 1_001)]),
+    named(NEAR_GREATEST, &[(NEAR_GREATEST, 0), (LOW, 1_001)]),
+    named(LOW, &[(LAW, 2), (NEAR_GREATEST, 1), (LOW, 1_001)]),
 ];

@@ -2,12 +2,14 @@
 //! them [01 §4].
 
 use super::damage::{damaged, lent_card, Lent};
+use super::laws::other_near_end;
 use super::lists::{backup_bound, list, zone_bound};
 use super::ratios::keyed_otherwise;
 use super::{accepted, Rng};
+use crate::curve::{DEFINITE, LAWS};
 use crate::replace::{edited, Ledger};
 use crate::row::*;
-use crate::whole::{whole, Answer};
+use crate::whole::{whole, Answer, Settings};
 
 /// A place and the new row for it.
 #[derive(Clone, Debug)]
@@ -49,7 +51,7 @@ pub fn change(list: &[u64], seed: u64) -> Change {
     let old = rng.pick(rows);
     let place = old[0];
     let mut row = Row::read(&old);
-    match rng.below(23) {
+    match rng.below(29) {
         0..=2 => return wrong_edit(&mut rng, rows.len() as u64, row),
         3 => return Change { place, row: out_of_range(&mut rng, old) },
         4 => row.kind = MOTOR,
@@ -61,6 +63,8 @@ pub fn change(list: &[u64], seed: u64) -> Change {
         10 | 11 => row.device = rng.between(1, 3),
         12 => just_fits(&mut rng, list, &mut row),
         13..=15 if row.is_in_range() => row = keyed_otherwise(&mut rng, &row),
+        16..=18 => row.law = rng.pick(&LAWS),
+        19..=21 => row.near_greatest = other_near_end(&mut rng, list, &row),
         _ => return Change { place, row: nudged(&mut rng, old) },
     }
     Change { place, row: row.numbers().to_vec() }
@@ -152,6 +156,9 @@ pub fn replacement(seed: u64) -> Replacement {
     let most = |at: usize| if at % CARD_NUMBERS == 1 { 3_000 } else { 1_000_000 };
     let mut card: Vec<u64> =
         (0..room).map(|at| rng.between(1, most(at).min(bounds[at].greatest))).collect();
+    for row in card.as_chunks_mut::<CARD_NUMBERS>().0.iter_mut().filter(|_| rng.chance(60)) {
+        *row = Settings { law: DEFINITE, ..Settings::read(row) }.numbers();
+    }
     let own = whole(&list, &mut card) == Answer::DONE;
     if room > 0 && rng.chance(if own { 70 } else { 20 }) {
         disturb(&mut rng, &mut card, &bounds);

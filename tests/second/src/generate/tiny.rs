@@ -1,10 +1,12 @@
 //! Lists of one to three rows with few available values, for trying every
-//! combination, keyed in any way [02 §1].
+//! combination, keyed in any way [02 §1], of any laws [02 §3].
 
+use super::laws::{lay_near_end, lay_times, widest_timed, Laws};
 use super::lists::{backup_bound, feeders, Shape};
 use super::ratios::Keyed;
 use super::Rng;
 use crate::conditions::Fed;
+use crate::curve::{time_at, DEFINITE};
 use crate::row::*;
 use crate::whole::{fed_rows, settle, Settings};
 
@@ -33,7 +35,29 @@ pub fn tiny(seed: u64) -> Vec<u64> {
         rows.push(row);
         settings.push(set);
     }
+    let laws = Laws::of_seed(seed);
+    if laws != Laws::Definite {
+        lay_laws(&mut Rng::new(seed.rotate_left(32)), laws, &mut rows, &settings);
+    }
     numbers_of(&rows)
+}
+
+/// Near-end currents of 0.700 to 20.000 times a pickup and about, and the times narrowed
+/// about the least.
+fn lay_laws(rng: &mut Rng, laws: Laws, rows: &mut [Row], pickups: &[Settings]) {
+    const MULTIPLES: [u64; 10] =
+        [700, 1_000, 1_000, 1_050, 1_300, 2_000, 3_000, 5_000, 10_000, 20_000];
+    for at in 0..rows.len() {
+        rows[at].law = laws.law(rng);
+        lay_near_end(rows, pickups, at, rng.pick(&MULTIPLES));
+        rows[at].near_greatest += rng.pick(&[0, 0, 1, 2]);
+    }
+    lay_times(rows, pickups, |row, pickup, fed| {
+        row.floor = rng.pick(&[0, 0, 100, 200, 250]);
+        let set = widest_timed(row, pickup, fed);
+        narrow_time(rng, row, time_at(row, &set, row).unwrap_or(0));
+        set
+    });
 }
 
 fn draft(rng: &mut Rng, most_kind: u64) -> Row {
@@ -58,6 +82,8 @@ fn draft(rng: &mut Rng, most_kind: u64) -> Row {
         backed: 0,
         rated_primary: 0,
         rated_secondary: 0,
+        law: DEFINITE,
+        near_greatest: 1,
     }
 }
 
@@ -73,9 +99,14 @@ fn narrow(rng: &mut Rng, row: &mut Row, fed: &[Fed]) -> Settings {
     let pickup = row.primary(set.pickup).0;
     let zone = (pickup * 3).over(2).down().max(2);
     row.far = zone + rng.below(6) - 1 + rng.pick(&[0, pickup.down()]);
-    row.floor = row.floor.max(set.delay.saturating_sub(rng.below(3)));
-    row.ceiling = (set.delay + rng.below(4)).saturating_sub(rng.below(2));
+    narrow_time(rng, row, set.delay);
     set
+}
+
+/// Leaves times of at most five ms about the least one.
+fn narrow_time(rng: &mut Rng, row: &mut Row, time: u64) {
+    row.floor = row.floor.max(time.saturating_sub(rng.below(3)));
+    row.ceiling = (time + rng.below(4)).saturating_sub(rng.below(2)).min(MOST_DELAY);
 }
 
 /// Asks for backup with far just enough, just too little, or as it is.

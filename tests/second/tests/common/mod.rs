@@ -26,6 +26,8 @@ pub fn row(row: u64, feeds_from: u64, rated: [u64; 2], work: u64) -> Row {
         backed: 0,
         rated_primary: rated[0],
         rated_secondary: rated[1],
+        law: 0,
+        near_greatest: 1,
     };
     Row { high: row.most_high(), ..row }
 }

@@ -4,8 +4,9 @@ use super::Condition::{self, *};
 use super::Stands::{self, *};
 use crate::conditions::*;
 use crate::current::{Fraction, Primary};
+use crate::curve::{time_at, MOST_MULTIPLIER};
 use crate::row::*;
-use crate::whole::{fed_rows, Settings};
+use crate::whole::{fed_rows, least_step, offered, Settings};
 
 type Field = fn(&mut Row) -> &mut u64;
 
@@ -53,22 +54,25 @@ pub fn ready(
             (at, |row| &mut row.far)
         }
         P4 => prepare_backup(&mut rows, at, pickup, &fed, stands)?,
-        _ if matches!(condition, Floor | MotorDelay | Ceiling | D2(..)) && stands == Between => {
-            return None;
-        }
-        Floor => {
-            row.floor = set.delay;
+        _ if condition.is_timed() && stands == Between => return None,
+        Floor(_) => {
+            row.floor = time_at(row, &set, row)?;
             (at, |row| &mut row.floor)
         }
-        MotorDelay => {
+        MostMultiplier(_) => {
+            row.floor = time_at(row, &set.timed(MOST_MULTIPLIER), row)?;
+            row.ceiling = MOST_DELAY.min(row.floor + 1);
+            (at, |row| &mut row.floor)
+        }
+        MotorTime(_) => {
             (row.floor, row.ceiling) = (0, 100);
             (at, |row| &mut row.ceiling)
         }
-        Ceiling => {
-            row.ceiling = set.delay;
+        Ceiling(_) => {
+            row.ceiling = time_at(row, &set, row)?;
             (at, |row| &mut row.ceiling)
         }
-        D2(feeding, under) => prepare_step(&mut rows, at, set.delay, &fed, [feeding, under])?,
+        D2(..) | D2Laws(..) => prepare_step(&mut rows, at, &set, &fed, condition)?,
         CutoffClear => (at, prepare_clear(row, set.cutoff, stands)?),
         CutoffNearLine | CutoffNearOther => (at, prepare_near(row, set.cutoff, condition, stands)?),
     };
@@ -167,25 +171,38 @@ fn prepare_backup(
     Some((moved, |row| &mut row.far))
 }
 
-/// One above, the fed row keeps room for its delay, so that D2 is what refuses.
+/// The fed row's time goes up to what D2 leaves it, where it can have that and one ms
+/// to either side. One above, it keeps room for its time, so that D2 is what refuses.
 fn prepare_step(
     rows: &mut [Row],
     at: usize,
-    delay: u64,
+    set: &Settings,
     fed: &[Fed],
-    devices: [u64; 2],
+    condition: Condition,
 ) -> Option<Moved> {
     let row = rows[at];
-    let decides = |below: &&Fed| {
-        [row.device, below.row.device] == devices
-            && below.settings.delay + step_between(&row, &below.row) == delay
+    let own = |set: &Settings| time_at(&row, set, &row);
+    let next = set.timed(set.delay + set.multiplier + 1);
+    let left = |below: &Fed| {
+        let time = time_at(&row, set, &below.row)?;
+        let left = time.checked_sub(step_between(&row, &below.row))?;
+        let fits = left > 0 && [left - 1, left, left + 1].iter().all(|&time| is_met(below, time));
+        (condition.is_between(&row, &below.row) && fits).then_some(left)
     };
-    let below = fed.iter().find(decides)?;
+    let (below, time) = fed.iter().find_map(|below| Some((below, left(below)?)))?;
     let moved = below.row.row as usize - 1;
-    rows[at].ceiling = delay;
-    rows[moved].floor = below.settings.delay;
-    rows[moved].ceiling = rows[moved].ceiling.max(below.settings.delay + 1);
+    rows[at].ceiling = own(set).filter(|&time| own(&next) > Some(time))?;
+    rows[moved].floor = time;
+    rows[moved].ceiling = rows[moved].ceiling.max(time + 1);
     Some((moved, |row| &mut row.floor))
+}
+
+/// Whether a delay or multiplier gives the fed row exactly so many ms.
+fn is_met(below: &Fed, time: u64) -> bool {
+    let (first, last) = offered(below.settings.law).into_inner();
+    let with = |step| time_at(&below.row, &below.settings.timed(first + step), &below.row);
+    let least = least_step(last - first, |step| with(step) >= Some(time));
+    least.is_some_and(|step| with(step) == Some(time))
 }
 
 fn prepare_clear(row: &mut Row, cutoff: u64, stands: Stands) -> Option<Field> {
