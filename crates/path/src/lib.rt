@@ -162,7 +162,7 @@ fn stays(card: &[u64], i: usize, old: CardRow, feeding: bool) -> bool
 }
 
 // Works out row i and then, unless it is a feeding row that comes out as it was, the path of the row that feeds it. A refusal above
-// puts the row's old numbers back.
+// puts the row's old numbers back. `links` are those of the list.
 fn climb(
     list: &[u64],
     links: &[u64],
@@ -196,7 +196,8 @@ fn climb(
     }
 }
 
-// Row by row 11, 12 or 13 before 14, and 14 before 7, along the path of row i, the replaced one, which never stops the climb.
+// Row by row 11, 12 or 13, then 14, then 7 along the path of row i, the replaced one, which never stops the climb. The fed rows are
+// linked once.
 pub fn work_path(list: &[u64], i: usize, card: &mut [u64]) -> HowFar
     requires { ⌜ PathReady (now list) i (now card) ⌝ }
     ensures { λ f. ⌜ WorkedOut (now (list .entry)) (reach (now (list .entry)) i (now (card .entry))) (now (card .entry)) f (now (card .exit)) ⌝ }

@@ -19,13 +19,13 @@ use Rattle.fold.proofs.FirstLaws.{first-at, first-is, first-none, first-nothing
 use Rattle.layout.specs.Counts.{fieldCount, columnCount, listMost, rowsMost}
 use Rattle.layout.specs.Fields.{atLow, atHigh, atPrimary, atSecondary}
 use Rattle.layout.specs.List.{rows, field}
-use Rattle.rows.specs.Tests.{fieldRight, highRight, orderFault, faultAfter, rowFault, rowAtFault, feedsRight, fedWrongly, sizeTest, fieldAnswer}
+use Rattle.rows.specs.Tests.{fieldRight, fieldWrong, highRight, orderFault, faultAfter, rowFault, rowAtFault, feedsRight, fedWrongly, sizeTest, fieldAnswer}
 use Rattle.rows.specs.Tests.{treeAnswer, treeTest, rowsTest}
 use Rattle.rows.specs.InRange.{RightSize, RowInRange, InRange, FieldInRange, FirstWrong, LowAboveHigh, HighAboveMost}
 use Rattle.rows.specs.InRange.{FirstOutOfRange, SizeGets, RowsGet}
 use Rattle.rows.proofs.InRangeLaws.{field-in-range, low-fault, high-fault, no-fault-row, in-range-field, row-no-fault}
 use Rattle.rows.proofs.InRangeLaws.{right-feeds, feeds-right, in-range-none, in-range-passes}
-use Rattle.rows.proofs.TestLaws.{fieldWrong, size-ragged, size-none, size-over, size-short, size-right}
+use Rattle.rows.proofs.TestLaws.{size-ragged, size-none, size-over, size-short, size-right}
 
 -- ---- 2 COUNT and 3 ROOM
 

@@ -5,7 +5,10 @@ use mathlib.Core.List.{List}
 use Prim.Native.Nat.{ℕ, _+_, _-_, _*_, _/_, _%_, _≤_, _<_}
 use lib.Dec.{leb, eqb}
 use Rattle.layout.specs.Counts.{fieldCount, columnCount, listMost}
-use Rattle.fold.proofs.BoolLaws.{and-left, and-right, zero-not-one}
+use Rattle.fold.proofs.BoolLaws.{and-left, and-right, zero-not-one, lt-or-le}
+use Rattle.fold.proofs.FirstLaws.{first-at, first-is, first-none, first-nothing}
+use mathlib.Core.Logic.{⊎-elim}
+use native.Mathlib.Omega.{arith}
 use borrow.Author.Tests.{eqb-true, leb-true, le-leb, lt-leb, lt-ltb, le-ltb, eq-eqb, ne-eqb}
 use Rattle.fold.specs.declared.Found.{Found}
 use Rattle.fold.specs.declared.Found.the-variants.{At, Nothing}
@@ -16,14 +19,36 @@ use Rattle.answers.specs.declared.Tested.{Tested}
 use Rattle.answers.specs.declared.Tested.the-variants.{Passed, Refused}
 use Rattle.layout.specs.Fields.{atFeeder, atKind, atLow, atHigh, atPrimary, atSecondary}
 use Rattle.layout.specs.List.{rows, field}
-use Rattle.rows.specs.Tests.{fieldRight, highRight, orderFault, faultAfter, rowFault, rowAtFault}
+use Rattle.rows.specs.Tests.{fieldWrong, highRight, orderFault, faultAfter, rowFault, rowAtFault}
 use Rattle.rows.specs.Tests.{feedsRight, fedWrongly, sizeTest, fieldAnswer, fieldsTest, rowsTest, treeAnswer, treeTest}
 
--- the tests that the loops search with
-abbrev pub fieldWrong : List ℕ → ℕ → ℕ → Bool
-fieldWrong l i k = not (fieldRight l i k)
-
 module _ (l : List ℕ) (i : ℕ) where
+  -- a search in two parts, below m and from m on
+  module _ (m : ℕ) (h : m ≤ fieldCount) where
+    pub wrong-before : (k : ℕ) → first (fieldWrong l i) 0 m ≡ At k → first (fieldWrong l i) 0 fieldCount ≡ At k
+    wrong-before k e =
+        let f = first-at (fieldWrong l i) m 0 k e in
+        first-is (fieldWrong l i) fieldCount 0 k (omega arith) (omega (arith, f .below)) (f .passes) (f .before)
+
+    module _ (none : first (fieldWrong l i) 0 m ≡ Nothing) where
+      right-before : (j : ℕ) → j < m → fieldWrong l i j ≡ false
+      right-before j g = first-nothing (fieldWrong l i) m 0 none j (omega arith) (omega arith)
+
+      pub wrong-behind : (k : ℕ) → first (fieldWrong l i) m (fieldCount - m) ≡ At k → first (fieldWrong l i) 0 fieldCount ≡ At k
+      wrong-behind k e =
+          let f = first-at (fieldWrong l i) (fieldCount - m) m k e in
+          first-is (fieldWrong l i) fieldCount 0 k (omega arith) (omega (arith, f .below)) (f .passes)
+          (λ j _ g. ⊎-elim (λ (b : j < m). right-before j b) (λ (b : m ≤ j). f .before j b g) (lt-or-le j m))
+
+      pub none-wrong : first (fieldWrong l i) m (fieldCount - m) ≡ Nothing → first (fieldWrong l i) 0 fieldCount ≡ Nothing
+      none-wrong e =
+          first-none (fieldWrong l i) fieldCount 0
+          (λ j _ g.
+          ⊎-elim
+          (λ (b : j < m). right-before j b)
+          (λ (b : m ≤ j). first-nothing (fieldWrong l i) (fieldCount - m) m e j b (omega arith))
+          (lt-or-le j m))
+
   pub fault-found : (k : ℕ) → first (fieldWrong l i) 0 fieldCount ≡ At k → k + 1 ≡ rowFault l i
   unfolding rowFault faultAfter
   fault-found k e = rw e

@@ -35,6 +35,9 @@ orderFault l i =
     (cond (highRight (field l i atHigh) (field l i atPrimary) (field l i atSecondary)) 0 (atHigh + 1))
     (atLow + 1)
 
+abbrev pub fieldWrong : List ℕ → ℕ → ℕ → Bool
+fieldWrong l i k = not (fieldRight l i k)
+
 -- the first field at fault of a row, from 1, or 0: the fields' own ranges first
 unfoldable pub faultAfter : ℕ → Found → ℕ
 faultAfter order (At k) = k + 1

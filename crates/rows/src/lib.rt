@@ -20,14 +20,14 @@ use sides::Ratio;
 use sides::SECONDARY_MOST;
 use sides::Secondary;
 ghost use mathlib.Core.Path.{_≡_};
-ghost use Prim.Native.Nat.{ℕ, _+_, _*_, _<_, _≤_};
+ghost use Prim.Native.Nat.{ℕ, _+_, _-_, _*_, _<_, _≤_};
 ghost use lib.ListN.{length};
 ghost use Rattle.layout.specs.Counts.{fieldCount};
 ghost use Rattle.layout.specs.Fields.{boundsTo};
 ghost use Rattle.fold.specs.First.{first};
 ghost use Rattle.layout.specs.List.{field, rows, boundsAt};
 ghost use Rattle.rows.specs.InRange.{FieldInRange};
-ghost use Rattle.rows.specs.Tests.{ratingRight, fieldRight, highRight, orderFault, rowFault, feedsRight, fedWrongly};
+ghost use Rattle.rows.specs.Tests.{ratingRight, fieldRight, fieldWrong, highRight, orderFault, rowFault, feedsRight, fedWrongly};
 ghost use Rattle.rows.specs.Tests.{sizeTest, treeTest, fieldsTest, rowsTest};
 
 // A rated secondary beside the rated primary.
@@ -92,19 +92,36 @@ fn order_fault(list: &[u64], i: usize) -> u64
     }
 }
 
+// The first field from one on, and below another, that is not right by itself.
+fn first_wrong(list: &[u64], table: &[u64], i: usize, from: usize, to: usize) -> Found
+    requires { ⌜ (i * fieldCount + fieldCount ≤ length (now list)) × (now table ≡ boundsAt (now list) i) × (from ≤ to) × (to ≤ fieldCount) ⌝ }
+    ensures { λ f. ⌜ f ≡ first (fieldWrong (now (list .entry)) i) from (to - from) ⌝ }
+{
+    let mut k = from;
+    while k < to {
+        if !field_right(list, table, i, k) {
+            return Found::At(k as u64);
+        }
+        k += 1;
+    }
+    Found::Nothing
+}
+
+// Half of the fields: a loop over so many is compiled without a branch back, with the bounds as constants; one over all is not.
+const HALF: usize = FIELDS / 2;
+
 // The first field at fault of a row, by its own table, from 1; 0 where there is none.
 fn fault_by(list: &[u64], table: &[u64], i: usize) -> u64
     requires { ⌜ (i * fieldCount + fieldCount ≤ length (now list)) × (now table ≡ boundsAt (now list) i) ⌝ }
     ensures { λ r. ⌜ r ≡ rowFault (now (list .entry)) i ⌝ }
 {
-    let mut k = 0;
-    while k < FIELDS {
-        if !field_right(list, table, i, k) {
-            return (k as u64) + 1;
-        }
-        k += 1;
+    match first_wrong(list, table, i, 0, HALF) {
+        Found::At(k) => k + 1,
+        Found::Nothing => match first_wrong(list, table, i, HALF, FIELDS) {
+            Found::At(k) => k + 1,
+            Found::Nothing => order_fault(list, i),
+        },
     }
-    order_fault(list, i)
 }
 
 // The same, by the table of a row without a ratio or that of a row with one.

@@ -28,7 +28,7 @@ returns : tie.Need-returns Inv-loop μ-loop
 returns c =
     let test = c .before .before .before in
     righted-fails _ _ _ _ _ (c .before .before .column-at .ensures) _ (c .before .in-bounds .ensures) (test .loop-test .taken)
-    (not-true _ (c .if1 .taken))
+    (not-true (c .before .in-bounds .result) (c .if1 .taken))
 
 add-k : tie.Need-add-k Inv-loop μ-loop
 add-k c = omega arith
@@ -40,7 +40,7 @@ loop-again : tie.Need-loop-again Inv-loop μ-loop
 loop-again c =
     let test = c .before .before .before in
     righted-more _ _ _ _ _ (c .before .before .column-at .ensures) _ (c .before .in-bounds .ensures) (test .before .loop .inv)
-    (test .loop-test .taken) (not-false _ (c .if1 .left))
+    (test .loop-test .taken) (not-false (c .before .in-bounds .result) (c .if1 .left))
 
 returns-2 : tie.Need-returns-2 Inv-loop μ-loop
 returns-2 c = righted-all _ _ _ (c .before .loop .inv) (c .loop-test .left)

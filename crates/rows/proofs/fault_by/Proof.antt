@@ -1,71 +1,98 @@
--- `rows::fault_by` meets its contract: the loop has passed fields that are right, so the first that is not is the first of all; then their order is judged.
+-- `rows::fault_by` meets its contract: the first field that is not right is in the first part, or in the second; then their order is judged.
 use native.Mathlib.Omega.{arith}
-use mathlib.Core.Bool.{not}
-use mathlib.Core.Path.{sym, ap, _∙_}
-use Prim.Native.Nat.{_-_}
+use borrow.Author.Needs.{needs}
+use mathlib.Core.Path.{sym, _∙_}
 use Rattle.layout.specs.Counts.{fieldCount}
-use Rattle.fold.proofs.FirstLaws.{Passed, passed-none, passed-more, passed-found, passed-all}
 use borrow.Author.Tests.{not-false}
-use Rattle.fold.proofs.FirstLaws.{first-nothing}
+use Rattle.fold.proofs.FirstLaws.{first-at, first-nothing}
 use Rattle.rows.proofs.InRangeLaws.{field-in-range}
-use Rattle.rows.proofs.TestLaws.{fieldWrong, fault-found, fault-after}
+use Rattle.rows.proofs.TestLaws.{wrong-before, wrong-behind, none-wrong, fault-found, fault-after}
 use Rattle.rows.proofs.fault_by.Statement.{statement}
 use Rattle.rows.proofs.fault_by.Tie as tie
 
-abbrev Inv-loop : tie.InvT-loop
-Inv-loop list table i k₀ k = Passed (fieldWrong list i) fieldCount k
+-- from past the second part back to the first, and to the start
+abbrev first-part : tie.After-enum-told → tie.After-first-wrong
+first-part c = c .before .before
 
-abbrev μ-loop : tie.MeasureT-loop
-μ-loop list table i k₀ k = fieldCount - k
+abbrev start : tie.After-first-wrong → tie.Start
+start c = c .before .before .before
 
-loop-holds : tie.Need-loop-holds Inv-loop μ-loop
-loop-holds c = passed-none _ fieldCount
+first-wrong-requires : tie.Need-first-wrong-requires
+first-wrong-requires c κs = let a = c .before .before .pre in (a .0, a .1, omega arith, omega arith)
 
-field-right-requires : tie.Need-field-right-requires Inv-loop μ-loop
-field-right-requires c κs = (c .before .before .before .before .pre .0, omega arith, c .before .before .before .before .pre .1)
+enum-known-k : tie.Need-enum-known-k
+enum-known-k c = search needs
 
-add-result : tie.Need-add-result Inv-loop μ-loop
-add-result c = omega arith
+add-result : tie.Need-add-result
+add-result c =
+    let found = c .before in
+    omega (arith, first-at _ _ 0 _ (sym (found .before .before .first-wrong .ensures) ∙ found .k .given .1) .below)
 
-returns : tie.Need-returns Inv-loop μ-loop
-returns c =
-    fault-found _ _ _
-    (passed-found _ (c .before .before .before .loop .inv) (c .before .before .loop-test .taken)
-    (sym (ap not (c .before .field-right .ensures)) ∙ c .if1 .taken))
+enum-told : tie.Need-enum-told
+enum-told c = search needs
 
-add-k : tie.Need-add-k Inv-loop μ-loop
-add-k c = omega arith
+first-wrong-requires-2 : tie.Need-first-wrong-requires-2
+first-wrong-requires-2 c κs = let a = start (first-part c) .pre in (a .0, a .1, omega arith, omega arith)
 
-loop-less : tie.Need-loop-less Inv-loop μ-loop
-loop-less c = omega arith
+enum-known-k-2 : tie.Need-enum-known-k-2
+enum-known-k-2 c = search needs
 
-loop-again : tie.Need-loop-again Inv-loop μ-loop
-loop-again c =
-    passed-more _ (c .before .before .before .loop .inv) (c .before .before .loop-test .taken) (sym (ap not (c .before .field-right .ensures)) ∙ c .if1 .left)
+add-result-2 : tie.Need-add-result-2
+add-result-2 c =
+    let found = c .before in
+    omega (arith, first-at _ _ _ _ (sym (found .before .before .first-wrong2 .ensures) ∙ found .k2 .given .1) .below)
+
+enum-told-2 : tie.Need-enum-told-2
+enum-told-2 c = search needs
 
 -- no field is wrong by itself
-order-fault-requires : tie.Need-order-fault-requires Inv-loop μ-loop
+order-fault-requires : tie.Need-order-fault-requires
 order-fault-requires c κs =
-    let none = passed-all _ (c .before .loop .inv) (c .loop-test .left) in (
-      c .before .before .before .before .pre .0,
+    let second = c .before .before in
+    let told = second .before in
+    let one = first-part told in
+    let none = none-wrong _ _ _ (omega arith) (sym (one .first-wrong .ensures) ∙ told .enum-told .given .1)
+    (sym (second .first-wrong2 .ensures) ∙ c .enum-told2 .given .1) in (
+      start one .pre .0,
       λ k h. field-in-range _ _ k (not-false _ (first-nothing _ fieldCount 0 none k (omega arith) (omega arith))),
     )
 
-returns-2 : tie.Need-returns-2 Inv-loop μ-loop
-returns-2 c = fault-after _ _ _ (passed-all _ (c .before .before .loop .inv) (c .before .loop-test .left)) (c .order-fault .ensures)
+returns : tie.Need-returns
+returns c =
+    let found = c .before in
+    fault-found _ _ _ (wrong-before _ _ _ (omega arith) _ (sym (found .before .before .first-wrong .ensures) ∙ found .k .given .1))
+
+returns-2 : tie.Need-returns-2
+returns-2 c =
+    let found = c .before in
+    let second = found .before .before in
+    let told = second .before in
+    fault-found _ _ _
+    (wrong-behind _ _ _ (omega arith) (sym (first-part told .first-wrong .ensures) ∙ told .enum-told .given .1) _
+    (sym (second .first-wrong2 .ensures) ∙ found .k2 .given .1))
+
+returns-3 : tie.Need-returns-3
+returns-3 c =
+    let told2 = c .before in
+    let second = told2 .before .before in
+    let told = second .before in
+    fault-after _ _ _
+    (none-wrong _ _ _ (omega arith) (sym (first-part told .first-wrong .ensures) ∙ told .enum-told .given .1)
+    (sym (second .first-wrong2 .ensures) ∙ told2 .enum-told2 .given .1)) (c .order-fault .ensures)
 
 pub fault-by-spec : {M : Type 1} → statement M
 fault-by-spec =
     tie.close
     (tie.spec
-    Inv-loop
-    μ-loop
-    loop-holds
-    field-right-requires
+    first-wrong-requires
+    enum-known-k
     add-result
-    returns
-    add-k
-    loop-less
-    loop-again
+    enum-told
+    first-wrong-requires-2
+    enum-known-k-2
+    add-result-2
+    enum-told-2
     order-fault-requires
-    returns-2)
+    returns
+    returns-2
+    returns-3)
