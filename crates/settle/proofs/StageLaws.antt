@@ -5,8 +5,8 @@ use mathlib.Core.Logic.{⊎-elim}
 use Prim.Native.Nat.{ℕ, _+_, _≤_}
 use native.Mathlib.Omega.{arith}
 use lib.Dec.{leb}
-use Rattle.curve.specs.Curve.{stalls, timeOf}
-use Rattle.curve.proofs.CurveLaws.{time-to}
+use Rattle.curve.specs.Curve.{stalls, settingTo, timeOf}
+use Rattle.curve.proofs.CurveLaws.{time-to, definite-runs, definite-time, definite-setting}
 use Rattle.fold.specs.declared.Found.{Found}
 use Rattle.fold.specs.declared.Found.the-variants.{At, Nothing}
 use Rattle.fold.proofs.BoolLaws.{not-both, passes-or-fails, zero-not-one}
@@ -22,7 +22,7 @@ use Rattle.settle.specs.Conditions.{primaryOf, multipleAt, fedMultiple, 
 use Rattle.settle.specs.Fed.{CardBounded}
 use Rattle.settle.specs.Settle.{firstStalling, stalledThere, stalled, meetsTime, leastSetting}
 use Rattle.settle.specs.Times.{neededMultiple, fedTimeOf, timedBy, WantedIs, WalkIs}
-use Rattle.settle.proofs.TimeLaws.{needed-stalls, needed-time}
+use Rattle.settle.proofs.TimeLaws.{needed-stalls, needed-time, setting-definite}
 
 -- a fed row f with the card row s: its M is m
 module _ (f : Row) (s : CardRow) (I : Primary) (m : ℕ) (eI : I ≡ primaryOf f (s .pickup)) (em : m ≡ neededMultiple (s .law) f f I) where
@@ -95,6 +95,28 @@ module _ (v : View) (k : Settings) (i : ℕ) (r : Row) (I : Primary) (j : ℕ) w
           ap₂ leb (ew ∙ ap (λ (t : ℕ). t + marginBetween (r .device) (v .row j .device)) (takes-means (v .row j) (k j) t e .1))
           (ap (λ (m : ℕ). timeOf (r .law) m x) em ∙ needed-time (r .law) r (v .row j) I x),
     )
+
+-- between definite rows no M is needed: the time is the delay
+module _ (v : View) (k : Settings) (i : ℕ) (r : Row) (I : Primary) (j : ℕ) (er : r .law ≡ 0) (es : k j .law ≡ 0) where
+  pub wanted-definite : (b : ℕ) → b ≡ k j .delay + marginBetween (r .device) (v .row j .device) → WantedIs v k i r I j (From b)
+  unfolding gradedAbove
+  wanted-definite b e = (
+    ap (λ (law : ℕ). stalls law (fedMultiple (v .row j) (k j))) es ∙ definite-runs (fedMultiple (v .row j) (k j)),
+    ap (λ (law : ℕ). stalls law (multipleAt r (v .row j) I)) er ∙ definite-runs (multipleAt r (v .row j) I),
+    λ x.
+        ap₂ leb (e ∙ ap (λ (t : ℕ). t + marginBetween (r .device) (v .row j .device)) (sym takes))
+        (sym (ap (λ (law : ℕ). timeOf law (multipleAt r (v .row j) I) x) er ∙ definite-time (multipleAt r (v .row j) I) x)),
+  )
+    where
+      takes : fedTime (v .row j) (k j) ≡ k j .delay
+      takes =
+          ap (λ (law : ℕ). timeOf law (fedMultiple (v .row j) (k j)) (settingOf (k j))) es ∙
+          definite-time (fedMultiple (v .row j) (k j)) (settingOf (k j)) ∙ setting-definite (k j) es
+
+-- a definite delay fits
+pub definite-to : (f : Row) (s : CardRow) → CardBounded f s → s .law ≡ 0 → s .delay ≤ 100000
+definite-to f s b e =
+    omega (arith, setting-definite s e, b .setting-to, ap settingTo e, definite-setting .1)
 
 -- row i's own M is m
 module _ (v : View) (k : Settings) (i : ℕ) (r : Row) (I : Primary) (m : ℕ) (em : m ≡ neededMultiple (r .law) r r I) where

@@ -13,17 +13,19 @@ use feeding::next_fed;
 use fold::Found;
 use grid::greater;
 use grid::least_on;
+use layout::AT_DEVICE;
 use layout::CardRow;
 use layout::FIELDS;
 use layout::Row;
 use layout::card_row_at;
+use layout::field_at;
 use layout::row_at;
 use sides::Primary;
 use sides::in_primary;
 ghost use mathlib.Core.Path.{_≡_};
 ghost use mathlib.Core.Bool.{false, _&&_};
 ghost use Prim.Native.Nat.{_≤_, _<_};
-ghost use lib.Dec.{leb};
+ghost use lib.Dec.{leb, eqb};
 ghost use Rattle.curve.specs.Curve.{stalls, timeOf};
 ghost use Rattle.layout.specs.Card.{cardRowAt};
 ghost use Rattle.layout.specs.List.{rows};
@@ -82,8 +84,8 @@ fn fed_time(f: Row, s: CardRow) -> FedTime
     FedTime::Takes(time_of(s.law, m, setting_of(s)))
 }
 
-// What fed row j asks of the setting of row i, whose fields are r, at its pickup.
-fn ask(list: &[u64], card: &[u64], i: usize, r: Row, pickup: Primary, j: usize) -> Wanted
+// What fed row j asks of the setting of row i, whose fields are r, at its pickup, where either is a curve row.
+fn ask_curve(list: &[u64], card: &[u64], i: usize, r: Row, pickup: Primary, j: usize) -> Wanted
     requires { ⌜ AskReady (now list) (now card) i r pickup j ⌝ }
     ensures { λ a. ⌜ WantedIs (viewOf (now (list .entry))) (cardRowAt (now (card .entry))) i r pickup j a ⌝ }
 {
@@ -98,6 +100,25 @@ fn ask(list: &[u64], card: &[u64], i: usize, r: Row, pickup: Primary, j: usize) 
             Wanted::From(least_setting(r.law, m, t + margin_between(r.device, f.device)))
         }
     }
+}
+
+// Neither row is a curve row.
+fn both_definite(a: u64, b: u64) -> bool
+    ensures { λ r. ⌜ r ≡ (eqb a 0 && eqb b 0) ⌝ }
+{
+    if a == 0 { b == 0 } else { false }
+}
+
+// The same for any two rows. Between definite ones no M is needed: most lists have no others, and there little is read.
+fn ask(list: &[u64], card: &[u64], i: usize, r: Row, pickup: Primary, j: usize) -> Wanted
+    requires { ⌜ AskReady (now list) (now card) i r pickup j ⌝ }
+    ensures { λ a. ⌜ WantedIs (viewOf (now (list .entry))) (cardRowAt (now (card .entry))) i r pickup j a ⌝ }
+{
+    let s = card_row_at(card, j);
+    if both_definite(r.law, s.law) {
+        return Wanted::From(s.delay + margin_between(r.device, field_at(list, j, AT_DEVICE)));
+    }
+    ask_curve(list, card, i, r, pickup, j)
 }
 
 // What all the rows that row i feeds ask, gone through in ascending order.

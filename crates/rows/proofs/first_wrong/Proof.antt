@@ -36,8 +36,7 @@ loop-less c = omega arith
 
 loop-again : tie.Need-loop-again Inv-loop μ-loop
 loop-again c =
-    let loop = c .before .before in
-    (
+    let loop = c .before .before in (
       omega (arith, loop .loop-test .taken),
       loop .before .loop .inv .1 ∙
           first-step-false (fieldWrong _ _) _ _ (loop .loop-test .taken) (sym (ap not (c .before .field-right .ensures)) ∙ c .if1 .left),
