@@ -27,7 +27,7 @@ use Rattle.calculate.proofs.LeastLaws.{pickups-under-on, pickup-fits-on
 use Rattle.calculate.proofs.MeetsLaws.{pickup-down}
 
 -- a card row with another pickup, and settings with another pickup in row i
-abbrev withPickup : CardRow → Secondary → CardRow
+abbrev pub withPickup : CardRow → Secondary → CardRow
 withPickup s x = record { pickup = x; delay = s .delay; cutoff = s .cutoff; law = s .law; multiplier = s .multiplier }
 
 unfoldable pub changed : Settings → ℕ → Secondary → Settings

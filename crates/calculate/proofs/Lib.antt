@@ -1,6 +1,7 @@
 pub mod AllLaws
 pub mod AnswerLaws
 pub mod CardRange
+pub mod DefiniteDemand2
 pub mod Demand1
 pub mod Demand2
 pub mod FrameLaws

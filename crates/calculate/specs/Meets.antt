@@ -26,3 +26,12 @@ pub record TimesMeet (v : View) (k : Settings) : Type 0 where
 pub record Meets (v : View) (k : Settings) : Type 0 where
   pub pickups : LeastPickups v k
   pub times : TimesMeet v k
+
+-- a list without curve rows
+abbrev pub NoCurves : View → Type 0
+NoCurves v = (i : ℕ) → i < v .count → v .row i .law ≡ 0
+
+-- demand 2 as it stood before curves, in one stage: pickups and delays that meet every condition together
+pub record MeetsTogether (v : View) (k : Settings) : Type 0 where
+  pub pickups : PickupsMeet v k
+  pub times : TimesMeet v k
