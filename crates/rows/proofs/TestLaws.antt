@@ -57,6 +57,13 @@ module _ (l : List ℕ) (i : ℕ) where
   unfolding rowFault faultAfter
   fault-after x e h = rw e h
 
+  -- without a ratio high is within its most
+  pub plain-right : field l i atPrimary ≡ 0 → (low high : ℕ) → low ≡ field l i atLow → high ≡ field l i atHigh → low ≤ high → 0 ≡ orderFault l i
+  unfolding orderFault highRight
+  plain-right z low high a b h =
+      let e : field l i atHigh * field l i atPrimary ≤ 100000000 * field l i atSecondary = rw z (omega arith) in
+      sym (rw (← a, ← b, le-leb low high h) (rw b (rw (le-leb (field l i atHigh * field l i atPrimary) (100000000 * field l i atSecondary) e))))
+
   -- low above high; high within its most, and above it
   module _ (low high p s : ℕ) (a : low ≡ field l i atLow) (b : high ≡ field l i atHigh) where
     pub order-low : high < low → atLow + 1 ≡ orderFault l i

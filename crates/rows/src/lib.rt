@@ -23,7 +23,7 @@ ghost use mathlib.Core.Path.{_≡_};
 ghost use Prim.Native.Nat.{ℕ, _+_, _-_, _*_, _<_, _≤_};
 ghost use lib.ListN.{length};
 ghost use Rattle.layout.specs.Counts.{fieldCount};
-ghost use Rattle.layout.specs.Fields.{boundsTo};
+ghost use Rattle.layout.specs.Fields.{atPrimary, boundsTo};
 ghost use Rattle.fold.specs.First.{first};
 ghost use Rattle.layout.specs.List.{field, rows, boundsAt};
 ghost use Rattle.rows.specs.InRange.{FieldInRange};
@@ -110,7 +110,34 @@ fn first_wrong(list: &[u64], table: &[u64], i: usize, from: usize, to: usize) ->
 // Half of the fields: a loop over so many is compiled without a branch back, with the bounds as constants; one over all is not.
 const HALF: usize = FIELDS / 2;
 
-// The first field at fault of a row, by its own table, from 1; 0 where there is none.
+// Low above high, which is all that the order of its fields asks of a row without a ratio.
+fn plain_order(list: &[u64], i: usize) -> u64
+    requires { ⌜ (i * fieldCount + fieldCount ≤ length (now list)) × (field (now list) i atPrimary ≡ 0) ⌝ }
+    ensures { λ r. ⌜ r ≡ orderFault (now (list .entry)) i ⌝ }
+{
+    if field_at(list, i, AT_HIGH) < field_at(list, i, AT_LOW) {
+        (AT_LOW as u64) + 1
+    } else {
+        0
+    }
+}
+
+// The first field at fault of a row without a ratio, by its own table, from 1; 0 where there is none. It has a function of its own, so that
+// it is compiled by itself: most rows have no ratio.
+fn plain_fault(list: &[u64], table: &[u64], i: usize) -> u64
+    requires { ⌜ (i * fieldCount + fieldCount ≤ length (now list)) × (now table ≡ boundsAt (now list) i) × (field (now list) i atPrimary ≡ 0) ⌝ }
+    ensures { λ r. ⌜ r ≡ rowFault (now (list .entry)) i ⌝ }
+{
+    match first_wrong(list, table, i, 0, HALF) {
+        Found::At(k) => k + 1,
+        Found::Nothing => match first_wrong(list, table, i, HALF, FIELDS) {
+            Found::At(k) => k + 1,
+            Found::Nothing => plain_order(list, i),
+        },
+    }
+}
+
+// The first field at fault of any row, by its own table, from 1; 0 where there is none.
 fn fault_by(list: &[u64], table: &[u64], i: usize) -> u64
     requires { ⌜ (i * fieldCount + fieldCount ≤ length (now list)) × (now table ≡ boundsAt (now list) i) ⌝ }
     ensures { λ r. ⌜ r ≡ rowFault (now (list .entry)) i ⌝ }
@@ -130,7 +157,7 @@ fn row_fault(list: &[u64], unrated: &[u64], rated: &[u64], i: usize) -> u64
     ensures { λ r. ⌜ r ≡ rowFault (now (list .entry)) i ⌝ }
 {
     if field_at(list, i, AT_PRIMARY) == 0 {
-        return fault_by(list, unrated, i);
+        return plain_fault(list, unrated, i);
     }
     fault_by(list, rated, i)
 }
