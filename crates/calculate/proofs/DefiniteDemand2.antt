@@ -17,7 +17,7 @@ use Rattle.layout.specs.View.{View, viewOf, Settings}
 use Rattle.rows.specs.InRange.{RightSize, HasRoom, InRange, Feeds}
 use Rattle.settle.specs.Conditions.{pickupAt, settingOf}
 use Rattle.settle.specs.Inequalities.{Feeding, TimeMet}
-use Rattle.settle.proofs.DefiniteTheorems.{Definite, definite-time-met}
+use Rattle.settle.proofs.DefiniteTheorems.{definite-time-met}
 use Rattle.settle.proofs.SameLaws.{fed-below}
 use Rattle.settle.proofs.TimeLaws.{setting-definite}
 use Rattle.calculate.specs.Meets.{PickupsMeet, LeastPickups, TimesMeet, Meets, NoCurves, MeetsTogether}
@@ -53,15 +53,12 @@ module _ (v : View) (none : NoCurves v) (p k : Settings) where
         met =
             λ i h.
             subst (TimeMet v (merged p k) i (pickupAt v (merged p k) i)) (sym (same-setting p k i))
-            (definite-time-met v k (merged p k) i (pickupAt v k i) (pickupAt v (merged p k) i) (settingOf (k i)) (definite i h) (still i h)
+            (definite-time-met v i (none i h) k (merged p k) (pickupAt v k i) (pickupAt v (merged p k) i) (settingOf (k i)) (below i) (below i)
             (λ j b f. refl) (m .met i h));
       }
     where
-      definite : (i : ℕ) → i < v .count → Definite v k i
-      definite i h = record { own = none i h; below = λ j b f. m .law j b ∙ none j b }
-
-      still : (i : ℕ) → i < v .count → Definite v (merged p k) i
-      still i h = record { own = none i h; below = λ j b f. m .law j b ∙ none j b }
+      below : (i j : ℕ) → j < v .count → Feeding v i j → k j .law ≡ 0
+      below i j b f = m .law j b ∙ none j b
 
 module _ (l c : List ℕ) (size : RightSize l) (room : HasRoom l (length c)) (a : InRange l) (b : Feeds l) (none : NoCurves (viewOf l)) where
   two-stages : (k : Settings) → MeetsTogether (viewOf l) k → (p : Settings) × Meets (viewOf l) (merged p k)

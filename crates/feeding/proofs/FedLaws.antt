@@ -1,23 +1,21 @@
 -- Laws of `fedFrom`: it gives the least row from j on that row i feeds, and the number of rows where there is none; so going from one fed
--- row to the next passes over nothing that a search or a maximum over the fed rows would see.
+-- row to the next passes over nothing that a search among the fed rows would see.
 use mathlib.Core.Path.{_≡_, refl, ap, _∙_}
-use mathlib.Core.Bool.{Bool, true, false, cond, _&&_}
+use mathlib.Core.Bool.{Bool, true, false, _&&_}
 use mathlib.Core.Logic.{_↔_, ⊎-elim}
 use mathlib.Core.List.{List}
-use Prim.Native.Nat.{ℕ, _+_, _-_, _≤_, _<_, max}
+use Prim.Native.Nat.{ℕ, _+_, _-_, _≤_, _<_}
 use native.Mathlib.Nat.{le-of-lt}
 use native.Mathlib.Omega.{arith}
 use borrow.Author.Tests.{eqb-true, eqb-false, eq-eqb, ne-eqb}
 use Rattle.fold.specs.declared.Found.{Found}
 use Rattle.fold.specs.declared.Found.the-variants.{At, Nothing}
 use Rattle.fold.specs.First.{first}
-use Rattle.fold.specs.Fold.{maxTo}
 use Rattle.fold.proofs.BoolLaws.{lt-or-le}
 use Rattle.fold.proofs.FirstLaws.{first-at, first-nothing, first-end, first-step-true, first-step-false}
-use Rattle.fold.proofs.FoldLaws.{maxTo-next}
 use Rattle.layout.specs.List.{rows}
 use Rattle.feeding.specs.Fed.{feederOf, feeds, foundOr, fedFrom, NextFed}
-use Rattle.feeding.proofs.OverLaws.{first-over-fails, max-over-zeros}
+use Rattle.feeding.proofs.OverLaws.{first-over-fails}
 
 module _ (l : List ℕ) (i : ℕ) where
   found-is-next : (j : ℕ) → j ≤ rows l → (o : Found) → first (feeds l i) j (rows l - j) ≡ o → NextFed l i j (foundOr (rows l) o)
@@ -115,29 +113,3 @@ module _ (l : List ℕ) (i : ℕ) where
         (j : ℕ) → j < rows l → feeds l i j ≡ true → p j ≡ false → first (λ j. feeds l i j && p j) j (rows l - j) ≡
         first (λ j. feeds l i j && p j) (j + 1) (rows l - (j + 1))
     first-fed-fails j h e t = first-step-false (λ j. feeds l i j && p j) j (rows l) h (ap (λ (b : Bool). b && p j) e ∙ t)
-
-    -- from a fed row that fails to the next fed row
-    pub first-walk :
-        (j : ℕ) → j < rows l → feeds l i j ≡ true → p j ≡ false → first (λ j. feeds l i j && p j) j (rows l - j) ≡
-        first (λ j. feeds l i j && p j) (fedFrom l i (j + 1)) (rows l - fedFrom l i (j + 1))
-    first-walk j h e t = first-fed-fails j h e t ∙ first-over (j + 1) (omega arith)
-
-  -- the maximum over the fed rows: between two of them it does not rise
-  module _ (f : ℕ → ℕ) where
-    pub max-over :
-        (a : ℕ) → a ≤ rows l → maxTo (fedFrom l i a) (λ j. cond (feeds l i j) (f j) 0) ≡ maxTo a (λ j. cond (feeds l i j) (f j) 0)
-    max-over a h =
-        max-over-zeros (λ j. cond (feeds l i j) (f j) 0) a (fedFrom l i a) (fedFrom-from a h)
-        (λ j lo hi. ap (λ (t : Bool). cond t (f j) 0) (fedFrom-between a j lo hi))
-
-    pub max-fed :
-        (j : ℕ) → feeds l i j ≡ true → maxTo (j + 1) (λ j. cond (feeds l i j) (f j) 0) ≡
-        max (maxTo j (λ j. cond (feeds l i j) (f j) 0)) (f j)
-    max-fed j e =
-        maxTo-next (λ j. cond (feeds l i j) (f j) 0) j ∙
-        ap (λ (t : Bool). max (maxTo j (λ j. cond (feeds l i j) (f j) 0)) (cond t (f j) 0)) e
-
-    pub max-walk :
-        (j : ℕ) → j < rows l → feeds l i j ≡ true → maxTo (fedFrom l i (j + 1)) (λ j. cond (feeds l i j) (f j) 0) ≡
-        max (maxTo j (λ j. cond (feeds l i j) (f j) 0)) (f j)
-    max-walk j h e = max-over (j + 1) (omega arith) ∙ max-fed j e

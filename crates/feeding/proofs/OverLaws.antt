@@ -1,13 +1,13 @@
--- Going on over numbers that count for nothing: a search finds the same from behind them, and a maximum does not rise over them.
-use mathlib.Core.Path.{_≡_, _∙_}
-use mathlib.Core.Bool.{Bool, false}
+-- Going on over numbers that count for nothing: a search finds the same from behind those that fail, and every number passes as before where
+-- those that follow pass.
+use mathlib.Core.Path.{_≡_, refl, ap, _∙_}
+use mathlib.Core.Bool.{Bool, true, false, _&&_, and-true}
 use Prim.Native.Nat.{ℕ, zero, suc, _+_, _-_, _≤_, _<_}
 use native.Mathlib.Nat.{add-zero}
 use native.Mathlib.Omega.{arith}
 use Rattle.fold.specs.First.{first}
-use Rattle.fold.specs.Fold.{maxTo}
+use Rattle.fold.specs.Fold.{every}
 use Rattle.fold.proofs.FirstLaws.{first-step-false}
-use Rattle.fold.proofs.FoldLaws.{maxTo-next}
 
 module _ (ok : ℕ → Bool) (a n : ℕ) where
   first-over-so-many :
@@ -25,17 +25,22 @@ module _ (ok : ℕ → Bool) (a n : ℕ) where
       let e : b ≡ a + (b - a) = omega arith in
       rw e (first-over-so-many (b - a) (omega arith) (λ j lo hi. none j lo (omega arith)))
 
-module _ (f : ℕ → ℕ) (a : ℕ) where
-  max-over-so-many : (d : ℕ) → ((j : ℕ) → a ≤ j → j < a + d → f j ≡ 0) → maxTo (a + d) f ≡ maxTo a f
-  max-over-so-many zero none = rw add-zero
-  max-over-so-many (suc d) none =
-      let e : a + suc d ≡ a + d + 1 = omega arith in
-      let before = max-over-so-many d (λ j lo hi. none j lo (omega arith)) in
-      let own = none (a + d) (omega arith) (omega arith) in
-      let next = maxTo-next f (a + d) in
-      rw e (omega arith)
+-- one test more
+pub every-next : (ok : ℕ → Bool) (n : ℕ) → every (suc n) ok ≡ (every n ok && ok n)
+unfolding every
+every-next ok n = refl
 
-  pub max-over-zeros : (b : ℕ) → a ≤ b → ((j : ℕ) → a ≤ j → j < b → f j ≡ 0) → maxTo b f ≡ maxTo a f
-  max-over-zeros b from none =
+module _ (ok : ℕ → Bool) (a : ℕ) where
+  every-over-so-many : (d : ℕ) → ((j : ℕ) → a ≤ j → j < a + d → ok j ≡ true) → every (a + d) ok ≡ every a ok
+  every-over-so-many zero h = rw add-zero
+  every-over-so-many (suc d) h =
+      let e : a + suc d ≡ suc (a + d) = omega arith in
+      rw e
+      (every-next ok (a + d) ∙
+      ap (λ (b : Bool). every (a + d) ok && b) (h (a + d) (omega arith) (omega arith)) ∙ and-true (every (a + d) ok) ∙
+      every-over-so-many d (λ j lo hi. h j lo (omega arith)))
+
+  pub every-over-passes : (b : ℕ) → a ≤ b → ((j : ℕ) → a ≤ j → j < b → ok j ≡ true) → every b ok ≡ every a ok
+  every-over-passes b from h =
       let e : b ≡ a + (b - a) = omega arith in
-      rw e (max-over-so-many (b - a) (λ j lo hi. none j lo (omega arith)))
+      rw e (every-over-so-many (b - a) (λ j lo hi. h j lo (omega arith)))

@@ -20,8 +20,8 @@ unfolding all conditions network below scale sumTo every returnsAfterSelfStart c
 condition-cases = refl
 
 pub settling-cases : all settlings ≡ true
-unfolding all same settlings network below scale first sumTo every count valueAt leastOn returnsAfterSelfStart clearOf seesOwnZone backsUp withinDelays margin
-    marginBetween gradedAbove staysClear seesNear meetsLower unbacked firstUnbacked candidate byBackup judged picked fitting cutoffOf
-    printed shown outcomeOf settled multiple stalls settingFrom settingTo numerator denominator timeOf ceilDiv multipleAt settingOf meetsTime
-    stallsBy firstStalling stalledThere stalled triedFrom triedTo timed
+unfolding all same settlings network below scale first sumTo every count valueAt leastOn returnsAfterSelfStart clearOf seesOwnZone backsUp
+    withinDelays margin marginBetween gradedAbove staysClear seesNear meetsLower unbacked firstUnbacked candidate byBackup judged picked
+    fitting cutoffOf printed shown outcomeOf settled multiple stalls settingFrom settingTo numerator denominator timeOf ceilDiv multipleAt
+    settingOf meetsTime stallsBy firstStalling stalledThere stalled triedFrom triedTo timed
 settling-cases = refl

@@ -68,7 +68,8 @@ module _ (v : View) (k : Settings) (i : ℕ) where
   -- the least pickup that meets P1 to P4 is the least that meets P1 and P2
   pub least-candidate :
       (x : Secondary) → AvailableOn (v .row i) x → PickupMet v k i (primaryOf (v .row i) x) →
-      ((y : Secondary) → AvailableOn (v .row i) y → PickupMet v k i (primaryOf (v .row i) y) → primaryOf (v .row i) x .0 ≤ primaryOf (v .row i) y .0) →
+      ((y : Secondary) → AvailableOn (v .row i) y → PickupMet v k i (primaryOf (v .row i) y) →
+      primaryOf (v .row i) x .0 ≤ primaryOf (v .row i) y .0) →
       Candidate v k i x
   least-candidate x a h least =
       record {

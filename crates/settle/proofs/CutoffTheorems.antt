@@ -60,7 +60,8 @@ module _ (r : Row) (p : 0 < r .step .0) where
           (passes-or-fails (seesNear r (primaryOf r (keyed C))))
       is Nothing e =
           subst (CutoffIs r) (cutoff-none r e)
-          (not-fitted (λ x m n. not-both (clear-exactly r (primaryOf r x) .1 (m .stays-clear)) (none-exactly r p (staysClear r) .0 e x (m .available))))
+          (not-fitted (λ x m n. not-both (clear-exactly r (primaryOf r x) .1 (m .stays-clear))
+          (none-exactly r p (staysClear r) .0 e x (m .available))))
 
       none :
           (f : Found) → leastPickup r (staysClear r) ≡ f → ((C : Secondary) → CutoffPickup r C → SeesNear r (primaryOf r C) → ⊥) →
@@ -74,7 +75,8 @@ module _ (r : Row) (p : 0 < r .step .0) where
       so (not-fitted n) = none (leastPickup r (staysClear r)) refl n
 
 -- what the card shows: the cutoff's pickup, or 0 where none is fitted
-pub shown-fitted : (I : Secondary) (w x : ℕ) (C : Secondary) → shown (record { pickup = I; law = w; setting = x; cutoff = Fitted C }) .cutoff ≡ C
+pub shown-fitted :
+    (I : Secondary) (w x : ℕ) (C : Secondary) → shown (record { pickup = I; law = w; setting = x; cutoff = Fitted C }) .cutoff ≡ C
 unfolding shown printed
 shown-fitted I w x C = refl
 

@@ -3,7 +3,7 @@
 --     D1-definite, D2-definite    the two lines
 --     no-curve-definite           CURVE is not given
 --     definite-time-met           what meets D1 and D2 meets them at any pickups
-use mathlib.Core.Path.{_≡_, sym, ap, ap₂, _∙_, subst}
+use mathlib.Core.Path.{_≡_, sym, ap, _∙_, subst}
 use mathlib.Core.Bool.{true}
 use mathlib.Core.Logic.{_↔_}
 use Prim.Native.Nat.{ℕ, _+_, _≤_, _<_}
@@ -16,7 +16,7 @@ use Rattle.layout.specs.declared.Row.{Row}
 use Rattle.layout.specs.View.{View, Settings}
 use Rattle.sides.specs.declared.Primary.{Primary}
 use Rattle.settle.specs.Conditions.{multipleAt, timeAt, settingOf, fedMultiple, fedTime, withinDelays, margin, gradedAbove}
-use Rattle.settle.specs.Inequalities.{Feeding, GradedAbove, Runs, TimeMet}
+use Rattle.settle.specs.Inequalities.{Feeding, Runs, TimeMet}
 use Rattle.settle.specs.Settle.{stalled}
 use Rattle.settle.proofs.ConditionTheorems.{D1-exactly, D2-exactly}
 use Rattle.settle.proofs.TimeLaws.{no-curve}
@@ -55,36 +55,36 @@ D2-definite r f s I t e g =
       λ h. D2-exactly r f s I t .1 (record { fed-step = omega (arith, h .0); own-step = omega (arith, h .1) }),
     )
 
--- row i and every row that it feeds, by its card row, are definite
-pub record Definite (v : View) (k : Settings) (i : ℕ) : Type 0 where
-  pub own : v .row i .law ≡ 0
-  pub below : (j : ℕ) → j < v .count → Feeding v i j → k j .law ≡ 0
+-- where row i and every row that it feeds are definite, these by their card rows, no M is needed
+module _ (v : View) (i : ℕ) (own : v .row i .law ≡ 0) where
+  runs-all : (k : Settings) (I : Primary) → ((j : ℕ) → j < v .count → Feeding v i j → k j .law ≡ 0) → Runs v k i I
+  runs-all k I below =
+      record {
+        own = λ n. absurd (n own);
+        above = λ j b f. record { fed-runs = λ n. absurd (n (below j b f)); own-runs = λ n. absurd (n own) };
+      }
 
-pub definite-runs-all : (v : View) (k : Settings) (i : ℕ) (I : Primary) → Definite v k i → Runs v k i I
-definite-runs-all v k i I d =
-    record {
-      own = λ n. absurd (n (d .own));
-      above = λ j b f. record { fed-runs = λ n. absurd (n (d .below j b f)); own-runs = λ n. absurd (n (d .own)) };
-    }
+  pub no-curve-definite :
+      (k : Settings) (I : Primary) → ((j : ℕ) → j < v .count → Feeding v i j → k j .law ≡ 0) → stalled v k i (v .row i) I ≡ Nothing
+  no-curve-definite k I below = runs-all-exactly v k i I .1 (runs-all k I below)
 
-pub no-curve-definite : (v : View) (k : Settings) (i : ℕ) (I : Primary) → Definite v k i → stalled v k i (v .row i) I ≡ Nothing
-no-curve-definite v k i I d = runs-all-exactly v k i I .1 (definite-runs-all v k i I d)
-
-pub definite-time-met :
-    (v : View) (k k′ : Settings) (i : ℕ) (I I′ : Primary) (x : ℕ) → Definite v k i → Definite v k′ i →
-    ((j : ℕ) → j < v .count → Feeding v i j → k j .delay ≡ k′ j .delay) → TimeMet v k i I x → TimeMet v k′ i I′ x
-definite-time-met v k k′ i I I′ x d d′ same m =
-    let r = v .row i in
-    record {
-      offered = m .offered;
-      runs = definite-runs-all v k′ i I′ d′;
-      D1 =
-          let h = D1-definite r I x (d .own) .0 (D1-exactly r (timeAt r r I x) .1 (m .D1)) in
-          D1-exactly r (timeAt r r I′ x) .0 (D1-definite r I′ x (d .own) .1 h);
-      D2 =
-          λ j b f.
-          let h = D2-definite r (v .row j) (k j) I x (d .own) (d .below j b f) .0 (D2-exactly r (v .row j) (k j) I x .1 (m .D2 j b f)) in
-          let e = same j b f in
-          D2-exactly r (v .row j) (k′ j) I′ x .0
-          (D2-definite r (v .row j) (k′ j) I′ x (d .own) (d′ .below j b f) .1 (omega (arith, h .0), omega (arith, h .1)));
-    }
+  -- and pickups do not matter, neither the row's own nor those below
+  pub definite-time-met :
+      (k k′ : Settings) (I I′ : Primary) (x : ℕ) → ((j : ℕ) → j < v .count → Feeding v i j → k j .law ≡ 0) →
+      ((j : ℕ) → j < v .count → Feeding v i j → k′ j .law ≡ 0) →
+      ((j : ℕ) → j < v .count → Feeding v i j → k j .delay ≡ k′ j .delay) → TimeMet v k i I x → TimeMet v k′ i I′ x
+  definite-time-met k k′ I I′ x below below′ same m =
+      let r = v .row i in
+      record {
+        offered = m .offered;
+        runs = runs-all k′ I′ below′;
+        D1 =
+            let h = D1-definite r I x own .0 (D1-exactly r (timeAt r r I x) .1 (m .D1)) in
+            D1-exactly r (timeAt r r I′ x) .0 (D1-definite r I′ x own .1 h);
+        D2 =
+            λ j b f.
+            let h = D2-definite r (v .row j) (k j) I x own (below j b f) .0 (D2-exactly r (v .row j) (k j) I x .1 (m .D2 j b f)) in
+            let e = same j b f in
+            D2-exactly r (v .row j) (k′ j) I′ x .0
+            (D2-definite r (v .row j) (k′ j) I′ x own (below′ j b f) .1 (omega (arith, h .0), omega (arith, h .1)));
+      }

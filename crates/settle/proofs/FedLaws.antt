@@ -17,7 +17,8 @@ use Rattle.sides.specs.declared.Primary.{Primary}
 use Rattle.settle.specs.Conditions.{pickupAt, fed, eachFed, loadOf, othersLoad, returnsAfterSelfStart, clearOf}
 use Rattle.settle.specs.Fed.{reach, excess, shortfall, gathered, clearOfAll, backsUpAll, unbackedBy, lowerBy, pickedBy, settledBy}
 use Rattle.settle.specs.Inequalities.{Feeding, BacksUp}
-use Rattle.settle.specs.Settle.{meetsLower, firstUnbacked, leastPickup, candidate, picked, stalled, meetsTime, leastSetting, outcomeOf, settled}
+use Rattle.settle.specs.Settle.{meetsLower, firstUnbacked, leastPickup, candidate, picked, outcomeOf, settled}
+use Rattle.settle.specs.Settle.{stalled, meetsTime, leastSetting}
 use Rattle.settle.proofs.ConditionTheorems.{P2-exactly, fed-exactly}
 use Rattle.settle.proofs.MeetsTheorems.{each-fed-at, each-fed-of, backed-all-exactly}
 use Rattle.settle.proofs.PickupLaws.{current-volts, load-bounded}
@@ -90,7 +91,8 @@ module _ (v : View) (a : AllBounded v) (k : Settings) (i : ℕ) (h : i < v .coun
       (λ j b g. P2-exactly v k i j I .1 (le-trans (mul-le-mul-left 11 (clear-at-most j b g)) c))
 
   clear-greatest :
-      (I : Primary) → eachFed v i (λ j. clearOf v k i j I) ≡ true → 11 * (gathered v k i .excess + gathered v k i .load - reach) ≤ 10 * I .0 * v .row i .volts
+      (I : Primary) → eachFed v i (λ j. clearOf v k i j I) ≡ true →
+      11 * (gathered v k i .excess + gathered v k i .load - reach) ≤ 10 * I .0 * v .row i .volts
   clear-greatest I t =
       ⊎-elim
       (λ z. omega (arith, no-excess z))
@@ -106,7 +108,8 @@ module _ (v : View) (a : AllBounded v) (k : Settings) (i : ℕ) (h : i < v .coun
   far-to : (j : ℕ) → j < v .count → v .row j .far .0 * v .row j .volts ≤ 250000000000000
   far-to j b = let q = a j b in current-volts (q .far-to) (q .volts-to)
 
-  backs-each : (I : Primary) → backsUpAll (v .row i) (gathered v k i) I ≡ true → (j : ℕ) → j < v .count → Feeding v i j → BacksUp v i j I
+  backs-each :
+      (I : Primary) → backsUpAll (v .row i) (gathered v k i) I ≡ true → (j : ℕ) → j < v .count → Feeding v i j → BacksUp v i j I
   unfolding backsUpAll
   backs-each I t j b f backed =
       let r = v .row j in
@@ -138,7 +141,8 @@ module _ (v : View) (a : AllBounded v) (k : Settings) (i : ℕ) (h : i < v .coun
       (greatest (fed v i) (λ j. shortfall (v .row j)) (v .count))
 
   pub backs-all-exactly :
-      (I : Primary) → I .0 ≤ 500000000 → (backsUpAll (v .row i) (gathered v k i) I ≡ true) ↔ ((j : ℕ) → j < v .count → Feeding v i j → BacksUp v i j I)
+      (I : Primary) → I .0 ≤ 500000000 → (backsUpAll (v .row i) (gathered v k i) I ≡ true) ↔
+      ((j : ℕ) → j < v .count → Feeding v i j → BacksUp v i j I)
   unfolding backsUpAll
   backs-all-exactly I b = (backs-each I, λ all. le-leb _ _ (backs-greatest I b all))
 

@@ -26,7 +26,8 @@ module _ (v : View) (i : ℕ) (ok : ℕ → Bool) where
   each-fed-of h = every-of (λ j. not (fed v i j) || ok j) (v .count) (λ j b. implied (fed v i j) (ok j) (h j b))
 
 -- a test asked for each fed row
-pub each-fed : (v : View) (i : ℕ) (ok : ℕ → Bool) → (eachFed v i ok ≡ true) ↔ ((j : ℕ) → j < v .count → Feeding v i j → ok j ≡ true)
+pub each-fed :
+    (v : View) (i : ℕ) (ok : ℕ → Bool) → (eachFed v i ok ≡ true) ↔ ((j : ℕ) → j < v .count → Feeding v i j → ok j ≡ true)
 each-fed v i ok = (
   λ t j b f. each-fed-at v i ok t j b (fed-exactly v i j .1 f),
   λ h. each-fed-of v i ok (λ j b g. h j b (fed-exactly v i j .0 g)),

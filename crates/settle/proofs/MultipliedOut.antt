@@ -17,7 +17,8 @@ use Rattle.sides.specs.declared.Primary.{Primary}
 use Rattle.sides.specs.declared.Secondary.{Secondary}
 use Rattle.sides.specs.Sides.{top, bottom, Rated}
 use Rattle.sides.proofs.SidesLaws.{exactly-the-fraction, bottom-from}
-use Rattle.settle.specs.Conditions.{primaryOf, pickupAt, fed, othersLoad, returnsAfterSelfStart, clearOf, seesOwnZone, backsUp, staysClear, seesNear}
+use Rattle.settle.specs.Conditions.{primaryOf, pickupAt, fed, othersLoad, returnsAfterSelfStart, clearOf, seesOwnZone, backsUp}
+use Rattle.settle.specs.Conditions.{staysClear, seesNear}
 use Rattle.settle.specs.Inequalities.{othersWork}
 use Rattle.settle.proofs.ConditionTheorems.{P1-exactly, P2-exactly, P3-exactly, P4-exactly, clear-exactly, near-exactly}
 
@@ -137,14 +138,16 @@ module _ (l : List ℕ) (i : ℕ) (rated : Rated (rowAt l i .ratio)) (x : Second
           (11 * (k j .pickup .0 * p′ * field l j atVolts + othersWork l i j * s′) * s ≤ 10 * x .0 * p * field l i atVolts * s′)
       P2-multiplied =
           both (P2-exactly (viewOf l) k i j I)
-          (in-fifths (s * s′) (11 * (k j .pickup .0 * p′ * field l j atVolts + othersWork l i j * s′) * s) (10 * x .0 * p * field l i atVolts * s′)
+          (in-fifths (s * s′) (11 * (k j .pickup .0 * p′ * field l j atVolts + othersWork l i j * s′) * s)
+          (10 * x .0 * p * field l i atVolts * s′)
           (mul-pos s-from (bottom-from (rowAt l j .ratio) rated′))
           (asked (pickupAt (viewOf l) k j .0) (k j .pickup .0) p′ s′ (field l j atVolts) (othersLoad (viewOf l) i j) (othersWork l i j) s
           (exactly-the-fraction (rowAt l j .ratio) rated′ (k j .pickup)) (others-work l i j))
           (own (10 * I .0 * field l i atVolts) (10 * x .0 * p * field l i atVolts) s s′ (raised 10 (field l i atVolts))))
         where
           asked :
-              (a y p′ s′ u b o s : ℕ) → a * s′ ≡ 5 * (y * p′) → b ≡ 5 * o → 11 * (a * u + b) * (s * s′) ≡ 5 * (11 * (y * p′ * u + o * s′) * s)
+              (a y p′ s′ u b o s : ℕ) → a * s′ ≡ 5 * (y * p′) → b ≡ 5 * o →
+              11 * (a * u + b) * (s * s′) ≡ 5 * (11 * (y * p′ * u + o * s′) * s)
           asked a y p′ s′ u b o s e f = split a u b s s′ ∙ ap₂ (λ (m n : ℕ). 11 * (m * u + n * s′) * s) e f ∙ join y p′ u o s s′
             where
               split : (a u b s s′ : ℕ) → 11 * (a * u + b) * (s * s′) ≡ 11 * (a * s′ * u + b * s′) * s

@@ -95,7 +95,8 @@ module _ (v : View) (i : ℕ) (r : Row) (f : Fed) where
     unfolding judged byBackup unbackedBy
     judge-fits z u = rw (← q, z, u)
 
-    pub judge-searched : seesOwnZone r I ≡ true → backsUpAll r f I ≡ false → (a : Found) → firstUnbacked v i r I ≡ a → byBackup x a ≡ comes
+    pub judge-searched :
+        seesOwnZone r I ≡ true → backsUpAll r f I ≡ false → (a : Found) → firstUnbacked v i r I ≡ a → byBackup x a ≡ comes
     unfolding judged unbackedBy
     judge-searched z u a g = rw (← q, z, u, g)
 
@@ -221,7 +222,8 @@ module _ (r : Row) where
       by-cases false f e = absurd (zero-not-one cc)
 
   -- and at most what the row's rated primary leaves it
-  pub picked-to : (v : View) (i : ℕ) (f : Fed) → Bounded r → (x : Secondary) → pickedBy v i r f ≡ Fits x → x .0 ≤ settingMost (r .ratio .primary)
+  pub picked-to :
+      (v : View) (i : ℕ) (f : Fed) → Bounded r → (x : Secondary) → pickedBy v i r f ≡ Fits x → x .0 ≤ settingMost (r .ratio .primary)
   unfolding pickedBy
   picked-to v i f a x e =
       let p = picked-found (leastPickup r (lowerBy r f)) _ x e in

@@ -42,7 +42,8 @@ module _ (r : Row) (f : Fed) (x : ℕ) where
 
 -- an available pickup is at most what the row's rated primary leaves it
 pub found-bounded :
-    (r : Row) → Bounded r → (ok : ℕ → Bool) (x : ℕ) → leastOn (r .low .0) (r .high .0) (r .step .0) ok ≡ At x → x ≤ settingMost (r .ratio .primary)
+    (r : Row) → Bounded r → (ok : ℕ → Bool) (x : ℕ) → leastOn (r .low .0) (r .high .0) (r .step .0) ok ≡ At x →
+    x ≤ settingMost (r .ratio .primary)
 found-bounded r a ok x e =
     le-trans (leastOn-least (r .low .0) (r .high .0) (r .step .0) (a .step-from) ok x e .available .within) (a .high-to)
 

@@ -29,7 +29,8 @@ use Rattle.settle.specs.Settle.{meetsTime, stallsBy, firstStalling, stal
 
 -- what counts only where a test passes is the same where the tests are and what counts is
 where-same :
-    {A B : Type 0} (op : Bool → A → B) → ((x x′ : A) → op false x ≡ op false x′) → (b b′ : Bool) (x x′ : A) → b ≡ b′ → (b ≡ true → x ≡ x′) →
+    {A B : Type 0} (op : Bool → A → B) → ((x x′ : A) → op false x ≡ op false x′) → (b b′ : Bool) (x x′ : A) →
+    b ≡ b′ → (b ≡ true → x ≡ x′) →
     op b x ≡ op b′ x′
 where-same op off true b′ x x′ e h = ap (op true) (h refl) ∙ ap (λ (b : Bool). op b x′) e
 where-same op off false b′ x x′ e h = off x x′ ∙ ap (λ (b : Bool). op b x′) e
@@ -40,7 +41,8 @@ module _ (v v′ : View) (k k′ : Settings) (i : ℕ) (n : v .count ≡ v′ .c
     (fields : (j : ℕ) → j < v .count → fed v i j ≡ true → v .row j ≡ v′ .row j)
     (settings : (j : ℕ) → j < v .count → fed v i j ≡ true → k j ≡ k′ j) where
   each-same :
-      (ok ok′ : ℕ → Bool) → ((j : ℕ) → j < v .count → fed v i j ≡ true → ok j ≡ ok′ j) → eachFed v i ok ≡ eachFed v′ i ok′
+      (ok ok′ : ℕ → Bool) → ((j : ℕ) → j < v .count → fed v i j ≡ true → ok j ≡ ok′ j) →
+      eachFed v i ok ≡ eachFed v′ i ok′
   each-same ok ok′ h =
       every-same (λ j. not (fed v i j) || ok j) (λ j. not (fed v′ i j) || ok′ j) (v .count)
       (λ j b. where-same (λ (t x : Bool). not t || x) (λ x x′. refl) (fed v i j) (fed v′ i j) (ok j) (ok′ j) (feeding j b) (h j b)) ∙
@@ -62,14 +64,16 @@ module _ (v v′ : View) (k k′ : Settings) (i : ℕ) (n : v .count ≡ v′ .c
       returnsAfterSelfStart (r t) I &&
       each-same (λ j. clearOf v k i j I) (λ j. clearOf v′ k′ i j I)
       (λ j b g.
-      λ u. leb (11 * (primaryOf (fields j b g u) (settings j b g u .pickup) .0 * fields j b g u .volts + others-same j u)) (10 * I .0 * r u .volts)) t
+      λ u.
+      leb (11 * (primaryOf (fields j b g u) (settings j b g u .pickup) .0 * fields j b g u .volts + others-same j u)) (10 * I .0 * r u .volts)) t
 
   unbacked-same : (I : Primary) → firstUnbacked v i (v .row i) I ≡ firstUnbacked v′ i (v′ .row i) I
   unfolding firstUnbacked unbacked
   unbacked-same I =
       first-same (unbacked v i (v .row i) I) (unbacked v′ i (v′ .row i) I) (v .count) 0
       (λ j b.
-      where-same _&&_ (λ x x′. refl) (fed v i j) (fed v′ i j) (not (backsUp (v .row i) (v .row j) I)) (not (backsUp (v′ .row i) (v′ .row j) I))
+      where-same _&&_ (λ x x′. refl) (fed v i j) (fed v′ i j) (not (backsUp (v .row i) (v .row j) I))
+      (not (backsUp (v′ .row i) (v′ .row j) I))
       (feeding j (omega arith))
       (λ g. λ t. not (backsUp (r t) (fields j (omega arith) g t) I))) ∙
       ap (first (unbacked v′ i (v′ .row i) I) 0) n

@@ -28,7 +28,8 @@ use Rattle.settle.specs.Conditions.{primaryOf, pickupAt, multipleAt, set
 use Rattle.settle.specs.Inequalities.{AvailableOn, PickupMet, LeastPickup, Runs, CurveIs, TimeMet, NoTime}
 use Rattle.settle.specs.Inequalities.{NoCandidate, CauseIs, LeastRow, RowSettled}
 use Rattle.settle.specs.Inequalities.CauseIs.{RANGE}
-use Rattle.settle.specs.Settle.{pickupOf, stalled, meetsTime, leastSetting, triedFrom, triedTo, cutoffOf, printed, shown, timed, outcomeOf, settled}
+use Rattle.settle.specs.Settle.{pickupOf, stalled, meetsTime, leastSetting, triedFrom, triedTo}
+use Rattle.settle.specs.Settle.{cutoffOf, printed, shown, timed, outcomeOf, settled}
 use Rattle.settle.proofs.CauseTheorems.{range-means, cause-exactly, fits-exactly, least-candidate}
 use Rattle.settle.proofs.TimeTheorems.{Timely, time-exactly, curve-exactly, runs-all-exactly}
 use Rattle.settle.proofs.TimeLaws.{by-law, is-curve, no-curve, setting-shown, tried-offered, offered-tried}

@@ -18,7 +18,8 @@ use Rattle.settle.specs.declared.FedTime.the-variants.{Takes, Slow}
 use Rattle.settle.specs.declared.Timed.the-variants.{Setting, Stalled, NoSetting}
 use Rattle.settle.specs.declared.Wanted.the-variants.{From, Stuck}
 use Rattle.sides.specs.declared.Primary.{Primary}
-use Rattle.settle.specs.Conditions.{primaryOf, multipleAt, fedMultiple, fedTime, fedStalls, stallsAt, settingOf, withinDelays, marginBetween, gradedAbove}
+use Rattle.settle.specs.Conditions.{primaryOf, multipleAt, fedMultiple, fedTime, fedStalls, stallsAt, settingOf}
+use Rattle.settle.specs.Conditions.{withinDelays, marginBetween, gradedAbove}
 use Rattle.settle.specs.Fed.{CardBounded}
 use Rattle.settle.specs.Settle.{firstStalling, stalledThere, stalled, meetsTime, leastSetting}
 use Rattle.settle.specs.Times.{neededMultiple, fedTimeOf, timedBy, WantedIs, WalkIs}

@@ -127,7 +127,8 @@ module _ (low high b : ℕ) (cap ok : ℕ → Bool) (down : (x y : ℕ) → x �
   pub capped-none : leastOn low high 1 (leb b) ≡ Nothing → leastOn low high 1 ok ≡ Nothing
   capped-none e =
       leastOn-none low high 1 (omega arith) ok
-      (λ y a. fails (ok y) (λ t. not-both (and-right (cap y) (leb b y) (sym (both y) ∙ t)) (leastOn-nothing low high 1 (omega arith) (leb b) e y a)))
+      (λ y a. fails (ok y) (λ t. not-both (and-right (cap y) (leb b y) (sym (both y) ∙ t))
+      (leastOn-nothing low high 1 (omega arith) (leb b) e y a)))
 
   pub capped-at : (x : ℕ) → leastOn low high 1 (leb b) ≡ At x → cap x ≡ true → leastOn low high 1 ok ≡ At x
   capped-at x e c =
@@ -162,12 +163,14 @@ module _ (r : Row) (m from : ℕ) where
 
   -- the bound of D1 from below, and the one given
   pub within-both :
-      (own motor : ℕ) → ((x : ℕ) → leb own x ≡ leb (max (r .floor) motor) (timeOf (r .law) m x)) → motor ≡ cond (eqb (r .kind) 3) 100 0 →
+      (own motor : ℕ) → ((x : ℕ) → leb own x ≡ leb (max (r .floor) motor) (timeOf (r .law) m x)) →
+      motor ≡ cond (eqb (r .kind) 3) 100 0 →
       (x : ℕ) → within x ≡ (under-ceiling x && leb (max own from) x)
   unfolding withinDelays
   within-both own motor bound e x =
       let t = timeOf (r .law) m x in
-      ap (λ (b : Bool). (leb (r .floor) t && (under-ceiling x && b)) && leb from x) (by-kind (eqb (r .kind) 3) t ∙ ap (λ (n : ℕ). leb n t) (sym e)) ∙
+      ap (λ (b : Bool). (leb (r .floor) t && (under-ceiling x && b)) && leb from x)
+      (by-kind (eqb (r .kind) 3) t ∙ ap (λ (n : ℕ). leb n t) (sym e)) ∙
       regroup (leb (r .floor) t) (under-ceiling x) (leb motor t) (leb from x) ∙
       ap (λ (b : Bool). under-ceiling x && (b && leb from x)) (sym (bound x ∙ max-leb (r .floor) motor t)) ∙
       ap (λ (b : Bool). under-ceiling x && b) (sym (max-leb own from x))

@@ -1,16 +1,17 @@
 -- [02 §3] Going through the rows that row i feeds, ascending by their links: so far none of them has an M at most 1.000, and the settings from
 -- `from` on are those that meet D2 above each of them.
-use mathlib.Core.Path.{_≡_, refl, sym, ap, ap₂, _∙_}
-use mathlib.Core.Bool.{Bool, true, false, not, _&&_, _||_, and-true}
+use mathlib.Core.Path.{_≡_, refl, sym, ap, _∙_}
+use mathlib.Core.Bool.{Bool, true, false, not, _&&_, _||_}
 use mathlib.Core.List.{List}
-use Prim.Native.Nat.{ℕ, zero, suc, _+_, _-_, _≤_, _<_, max}
-use native.Mathlib.Nat.{add-zero, sub-zero}
+use Prim.Native.Nat.{ℕ, _+_, _-_, _≤_, _<_, max}
+use native.Mathlib.Nat.{sub-zero}
 use native.Mathlib.Numerals.{add-one}
 use native.Mathlib.Omega.{arith}
 use lib.Dec.{leb}
 use borrow.Author.Tests.{le-leb}
 use Rattle.feeding.specs.Fed.{feeds, fedFrom}
 use Rattle.feeding.proofs.FedLaws.{fedFrom-to, fedFrom-from, fedFrom-feeds, fedFrom-between, first-over, first-fed-passes, first-fed-fails}
+use Rattle.feeding.proofs.OverLaws.{every-next, every-over-passes}
 use Rattle.fold.specs.First.{first}
 use Rattle.fold.specs.Fold.{every}
 use Rattle.fold.proofs.FirstLaws.{first-end}
@@ -21,29 +22,9 @@ use Rattle.layout.specs.List.{rows}
 use Rattle.layout.specs.View.{View, viewOf, Settings}
 use Rattle.settle.specs.declared.Wanted.the-variants.{From, Stuck}
 use Rattle.sides.specs.declared.Primary.{Primary}
-use Rattle.settle.specs.Conditions.{fed, eachFed, fedStalls, stallsAt, gradedAbove}
+use Rattle.settle.specs.Conditions.{fed, fedStalls, stallsAt, gradedAbove}
 use Rattle.settle.specs.Settle.{stallsBy, firstStalling, stalledThere}
 use Rattle.settle.specs.Times.{WantedIs, WalkIs}
-
--- one test more; tests that pass for a while change nothing
-every-next : (ok : ℕ → Bool) (n : ℕ) → every (suc n) ok ≡ (every n ok && ok n)
-unfolding every
-every-next ok n = refl
-
-module _ (ok : ℕ → Bool) (a : ℕ) where
-  every-over-so-many : (d : ℕ) → ((j : ℕ) → a ≤ j → j < a + d → ok j ≡ true) → every (a + d) ok ≡ every a ok
-  every-over-so-many zero h = rw add-zero
-  every-over-so-many (suc d) h =
-      let e : a + suc d ≡ suc (a + d) = omega arith in
-      rw e
-      (every-next ok (a + d) ∙
-      ap (λ (b : Bool). every (a + d) ok && b) (h (a + d) (omega arith) (omega arith)) ∙ and-true (every (a + d) ok) ∙
-      every-over-so-many d (λ j lo hi. h j lo (omega arith)))
-
-  every-over : (b : ℕ) → a ≤ b → ((j : ℕ) → a ≤ j → j < b → ok j ≡ true) → every b ok ≡ every a ok
-  every-over b from h =
-      let e : b ≡ a + (b - a) = omega arith in
-      rw e (every-over-so-many (b - a) (λ j lo hi. h j lo (omega arith)))
 
 module _ (l c : List ℕ) (i : ℕ) (r : Row) (I : Primary) where
   abbrev v : View
@@ -81,7 +62,7 @@ module _ (l c : List ℕ) (i : ℕ) (r : Row) (I : Primary) where
         asked =
             λ x.
             asked x ∙
-            sym (every-over (graded x) a (fedFrom l i a) (fedFrom-from l i a h) (λ j lo hi. rw (fedFrom-between l i a j lo hi)));
+            sym (every-over-passes (graded x) a (fedFrom l i a) (fedFrom-from l i a h) (λ j lo hi. rw (fedFrom-between l i a j lo hi)));
       }
 
   pub walk-start : (n j : ℕ) → n ≡ rows l → j ≡ fedFrom l i 0 → Walking n 0 j
@@ -104,7 +85,8 @@ module _ (l c : List ℕ) (i : ℕ) (r : Row) (I : Primary) where
 
     -- or goes on behind it
     pub walk-next :
-        (b from′ j′ : ℕ) → WantedIs v k i r I j (From b) → from′ ≡ max from b → j′ ≡ fedFrom l i (j + 1) → Walking n from′ j′
+        (b from′ j′ : ℕ) → WantedIs v k i r I j (From b) → from′ ≡ max from b → j′ ≡ fedFrom l i (j + 1) →
+        Walking n from′ j′
     unfolding stallsBy
     walk-next b from′ j′ s e q =
         rw (e, q)

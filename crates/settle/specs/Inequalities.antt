@@ -1,7 +1,7 @@
--- [01 §3, §4], [02 §1, §2, §3, §5] The conditions as a reader of the section writes them, by inequalities: of one row, the rows that it feeds being
--- at the settings k. Available is what the relay offers on its own side; conditions are on primary currents, in fifths of a mA on both
--- sides, and "lower" is lower in primary. The tests of Conditions.antt and the settling of Settle.antt are proved to say exactly this, and the demands are
--- stated with it. Rows are counted from 0: row i has number i + 1. Definitions only.
+-- [01 §3, §4], [02 §1, §2, §3, §5] The conditions as a reader of the section writes them, by inequalities: of one row, the rows that it
+-- feeds being at the settings k. Available is what the relay offers on its own side; conditions are on primary currents, in fifths of a mA
+-- on both sides, and "lower" is lower in primary. The tests of Conditions.antt and the settling of Settle.antt are proved to say exactly
+-- this, and the demands are stated with it. Rows are counted from 0: row i has number i + 1. Definitions only.
 use mathlib.Core.Path.{_≡_}
 use mathlib.Core.Bool.{not, cond, _&&_}
 use mathlib.Core.List.{List}
@@ -66,7 +66,8 @@ pub record LeastPickup (v : View) (k : Settings) (i : ℕ) (x : Secondary) : Typ
   pub available : AvailableOn (v .row i) x
   pub met : PickupMet v k i (primaryOf (v .row i) x)
   pub no-lower :
-      (y : Secondary) → AvailableOn (v .row i) y → PickupMet v k i (primaryOf (v .row i) y) → primaryOf (v .row i) x .0 ≤ primaryOf (v .row i) y .0
+      (y : Secondary) → AvailableOn (v .row i) y → PickupMet v k i (primaryOf (v .row i) y) →
+      primaryOf (v .row i) x .0 ≤ primaryOf (v .row i) y .0
 
 -- [02 §3] a law is a curve: B or C
 abbrev pub Curved : ℕ → Type 0
@@ -153,7 +154,8 @@ pub record Candidate (v : View) (k : Settings) (i : ℕ) (x : Secondary) : Type 
   pub available : AvailableOn (v .row i) x
   pub lower-met : LowerMet v k i (primaryOf (v .row i) x)
   pub least :
-      (y : Secondary) → AvailableOn (v .row i) y → LowerMet v k i (primaryOf (v .row i) y) → primaryOf (v .row i) x .0 ≤ primaryOf (v .row i) y .0
+      (y : Secondary) → AvailableOn (v .row i) y → LowerMet v k i (primaryOf (v .row i) y) →
+      primaryOf (v .row i) x .0 ≤ primaryOf (v .row i) y .0
 
 -- "if there is none": no available pickup of row i meets P1 and P2
 abbrev pub NoCandidate : View → Settings → ℕ → Type 0
@@ -172,7 +174,8 @@ pub data CauseIs (v : View) (k : Settings) (i : ℕ) : Cause → Type 0 where
   RANGE : NoCandidate v k i → CauseIs v k i Range
   OWN-ZONE : (x : Secondary) → Candidate v k i x → (SeesOwnZone v i (primaryOf (v .row i) x) → ⊥) → CauseIs v k i OwnZone
   BACKUP :
-      (x : Secondary) (j : ℕ) → Candidate v k i x → SeesOwnZone v i (primaryOf (v .row i) x) → FirstUnbacked v i (primaryOf (v .row i) x) j →
+      (x : Secondary) (j : ℕ) → Candidate v k i x → SeesOwnZone v i (primaryOf (v .row i) x) →
+      FirstUnbacked v i (primaryOf (v .row i) x) j →
       CauseIs v k i (Backup (j + 1))
 
 -- row i stands at its least settings: no pickup that fits it is lower in primary; at that pickup, by the list's law, no shorter delay

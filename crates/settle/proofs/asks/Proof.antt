@@ -17,8 +17,11 @@ use Rattle.settle.proofs.asks.Statement.{statement}
 use Rattle.settle.proofs.asks.Tie as tie
 
 -- a lent pickup, in primary, times volts
-pickup-volts : (f : Row) (s : CardRow) → Bounded f → CardBounded f s → (I : Primary) → I ≡ primaryOf f (s .pickup) → I .0 * f .volts ≤ 25000000000000000
-pickup-volts f s a b I e = mul-le-mul (subst (λ (I : Primary). I .0 ≤ 50000000000) (sym e) (found-fits f a (s .pickup) (b .pickup-to))) (a .volts-to)
+pickup-volts :
+    (f : Row) (s : CardRow) → Bounded f → CardBounded f s → (I : Primary) → I ≡ primaryOf f (s .pickup) →
+    I .0 * f .volts ≤ 25000000000000000
+pickup-volts f s a b I e =
+    mul-le-mul (subst (λ (I : Primary). I .0 ≤ 50000000000) (sym e) (found-fits f a (s .pickup) (b .pickup-to))) (a .volts-to)
 
 mul-load : tie.Need-mul-load
 mul-load c = let a = c .before .pre .0 in record { fits = lt-of-le-of-lt (current-volts (a .work-to) (a .volts-to)) (lit< tt) }
@@ -30,7 +33,8 @@ mul-excess : tie.Need-mul-excess
 mul-excess c =
     let read = c .before .before in
     let start = read .before .before in
-    record { fits = lt-of-le-of-lt (pickup-volts (start .args .f) (start .args .s) (start .pre .0) (start .pre .1) _ (read .in-primary .ensures)) (lit< tt) }
+    let to = pickup-volts (start .args .f) (start .args .s) (start .pre .0) (start .pre .1) _ (read .in-primary .ensures) in
+    record { fits = lt-of-le-of-lt to (lit< tt) }
 
 sub-excess : tie.Need-sub-excess
 sub-excess c = let a = c .before .before .before .before .pre .0 in omega (arith, current-volts (a .work-to) (a .volts-to))

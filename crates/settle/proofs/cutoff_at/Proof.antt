@@ -14,7 +14,9 @@ use Rattle.settle.proofs.cutoff_at.Statement.{statement}
 use Rattle.settle.proofs.cutoff_at.Tie as tie
 
 -- the sensitivity that was tested is that of the pickup found
-sees : (r : Row) (x : ℕ) (I : Primary) → I ≡ primaryOf r (keyed x) → (b t : Bool) → b ≡ seesNear r I → b ≡ t → seesNear r (primaryOf r (keyed x)) ≡ t
+sees :
+    (r : Row) (x : ℕ) (I : Primary) → I ≡ primaryOf r (keyed x) → (b t : Bool) → b ≡ seesNear r I → b ≡ t →
+    seesNear r (primaryOf r (keyed x)) ≡ t
 sees r x I e b t f g = sym (ap (seesNear r) e) ∙ sym f ∙ g
 
 cutoff-from-requires : tie.Need-cutoff-from-requires

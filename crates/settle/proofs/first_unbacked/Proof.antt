@@ -25,7 +25,8 @@ returns : tie.Need-returns Inv-loop μ-loop
 unfolding firstUnbacked
 returns c =
     sym
-    (passed-found _ (c .before .before .before .loop .inv) (c .before .before .loop-test .taken) (sym (c .before .is-unbacked .ensures) ∙ c .if1 .taken))
+    (passed-found _ (c .before .before .before .loop .inv) (c .before .before .loop-test .taken)
+    (sym (c .before .is-unbacked .ensures) ∙ c .if1 .taken))
 
 add-j : tie.Need-add-j Inv-loop μ-loop
 add-j c = omega arith
@@ -35,7 +36,8 @@ loop-less c = omega arith
 
 loop-again : tie.Need-loop-again Inv-loop μ-loop
 loop-again c =
-    passed-more _ (c .before .before .before .loop .inv) (c .before .before .loop-test .taken) (sym (c .before .is-unbacked .ensures) ∙ c .if1 .left)
+    passed-more _ (c .before .before .before .loop .inv) (c .before .before .loop-test .taken)
+    (sym (c .before .is-unbacked .ensures) ∙ c .if1 .left)
 
 returns-2 : tie.Need-returns-2 Inv-loop μ-loop
 unfolding firstUnbacked

@@ -24,7 +24,8 @@ use Rattle.settle.proofs.times.least_time.Tie as tie
 
 -- the bound of D1 from below is `own`, and the least value from the later bound on is `found`
 module _ (r : Row) (m from : ℕ) (motor want own bound low high : ℕ) (found : Found) (em : motor ≡ cond (eqb (r .kind) 3) 100 0)
-    (ew : want ≡ max (r .floor) motor) (eo : (x : ℕ) → leb own x ≡ leb want (timeOf (r .law) m x)) (el : low ≡ triedFrom r) (eh : high ≡ triedTo r)
+    (ew : want ≡ max (r .floor) motor) (eo : (x : ℕ) → leb own x ≡ leb want (timeOf (r .law) m x))
+    (el : low ≡ triedFrom r) (eh : high ≡ triedTo r)
     (eb : bound ≡ max own from) (ef : found ≡ leastOn low high 1 (leb bound)) where
   abbrev D1-from : ℕ → Bool
   D1-from x = withinDelays r (timeOf (r .law) m x) && leb from x
@@ -40,16 +41,24 @@ module _ (r : Row) (m from : ℕ) (motor want own bound low high : ℕ) (found :
 
   module _ (x t : ℕ) (e : found ≡ At x) (et : t ≡ timeOf (r .law) m x) where
     under : t ≤ r .ceiling → At x ≡ leastSetting r D1-from
-    under h = sym (capped-at _ _ _ _ D1-from (ceiling-down r m from) both x (sym found-is ∙ e) (le-leb (timeOf (r .law) m x) (r .ceiling) (omega (arith, et))))
+    under h =
+        sym
+        (capped-at _ _ _ _ D1-from (ceiling-down r m from) both x (sym found-is ∙ e)
+        (le-leb (timeOf (r .law) m x) (r .ceiling) (omega (arith, et))))
 
     over : r .ceiling < t → Nothing ≡ leastSetting r D1-from
-    over h = sym (capped-over _ _ _ _ D1-from (ceiling-down r m from) both x (sym found-is ∙ e) (lt-leb (timeOf (r .law) m x) (r .ceiling) (omega (arith, et))))
+    over h =
+        sym
+        (capped-over _ _ _ _ D1-from (ceiling-down r m from) both x (sym found-is ∙ e)
+        (lt-leb (timeOf (r .law) m x) (r .ceiling) (omega (arith, et))))
 
   within-to : Bounded r → (x : ℕ) → found ≡ At x → x ≤ settingTo (r .law)
   within-to a x e = le-trans (leastOn-least _ _ 1 (omega arith) _ x (sym found-is ∙ e) .available .within) (tried-to r a)
 
 -- what is wanted of the row's own time fits
-wanted-to : (r : Row) (motor : ℕ) → Bounded r → (want : ℕ) → motor ≡ cond (eqb (r .kind) 3) 100 0 → want ≡ max (r .floor) motor → want ≤ 100000000
+wanted-to :
+    (r : Row) (motor : ℕ) → Bounded r → (want : ℕ) → motor ≡ cond (eqb (r .kind) 3) 100 0 →
+    want ≡ max (r .floor) motor → want ≤ 100000000
 wanted-to r motor a want em ew = omega (arith, ew, em, by-kind (eqb (r .kind) 3), a .floor-to)
   where
     by-kind : (b : Bool) → cond b 100 0 ≤ 100

@@ -63,7 +63,8 @@ loop-less : tie.Need-loop-less Inv-loop μ-loop
 loop-less c =
     let loop = c .before .before .before .before .before .before in
     let w = loop .before .loop .inv in
-    let rises = fedFrom-rises _ _ _ _ (omega (arith, w .all-rows, loop .loop-test .taken)) (c .next-fed .ensures _ (w .is-fed (loop .loop-test .taken))) in
+    let rises = fedFrom-rises _ _ _ _ (omega (arith, w .all-rows, loop .loop-test .taken))
+    (c .next-fed .ensures _ (w .is-fed (loop .loop-test .taken))) in
     omega arith
 
 loop-again : tie.Need-loop-again Inv-loop μ-loop
