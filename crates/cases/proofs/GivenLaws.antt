@@ -15,7 +15,8 @@ unfolding comes
 calculation-given l c z = λ t. calculated (sym (z .numbers) t) (sym (z .card) t)
 
 pub replacement-given :
-    (l c : List ℕ) (place : ℕ) (row : List ℕ) {g : List ℕ} {n : ℕ} {l′ c′ : List ℕ} → GaveBoth (replaced l c place row) g n l′ c′ →
+    (l c : List ℕ) (place : ℕ) (row : List ℕ) {g : List ℕ} {n : ℕ} {l′ c′ : List ℕ} →
+    GaveBoth (replaced l c place row) g n l′ c′ →
     comes (replaces l c place row) ≡ replacing g n l′ c′
 unfolding comes
 replacement-given l c place row z = λ t. replacing (sym (z .numbers) t) (sym (z .count) t) (sym (z .list) t) (sym (z .card) t)

@@ -20,7 +20,8 @@ rated l n primary secondary = with (with l n 19 primary) n 20 secondary
 -- and 20 × 154,008.4 = 3,080,168 ≤ 10 × 308,017.
 abbrev motorRow : ℕ → ℕ → List ℕ → List ℕ
 motorRow n feeder rest =
-    n ∷ feeder ∷ 3 ∷ 6000 ∷ 140003 ∷ 1000 ∷ 1000 ∷ 231007 ∷ 118468 ∷ 308017 ∷ 1300 ∷ 110001 ∷ 110021 ∷ 1 ∷ 1 ∷ 0 ∷ 1000 ∷ 0 ∷ 7 ∷ 5 ∷ rest
+    n ∷ feeder ∷ 3 ∷ 6000 ∷ 140003 ∷ 1000 ∷ 1000 ∷ 231007 ∷ 118468 ∷ 308017 ∷ 1300 ∷ 110001 ∷ 110021 ∷ 1 ∷
+    1 ∷ 0 ∷ 1000 ∷ 0 ∷ 7 ∷ 5 ∷ 0 ∷ 308017 ∷ rest
 
 unfoldable pub motor : List ℕ
 motor = motorRow 1 0 []
@@ -29,32 +30,36 @@ motor = motorRow 1 0 []
 -- 1,300 × 127,500, and 20 × 165,750 = 10 × 331,500.
 abbrev smallRow : ℕ → ℕ → List ℕ → List ℕ
 smallRow n feeder rest =
-    n ∷ feeder ∷ 3 ∷ 6000 ∷ 150000 ∷ 1000 ∷ 1000 ∷ 247500 ∷ 127500 ∷ 331500 ∷ 1300 ∷ 2199 ∷ 2219 ∷ 1 ∷ 1 ∷ 0 ∷ 1000 ∷ 0 ∷ 75 ∷ 1 ∷ rest
+    n ∷ feeder ∷ 3 ∷ 6000 ∷ 150000 ∷ 1000 ∷ 1000 ∷ 247500 ∷ 127500 ∷ 331500 ∷ 1300 ∷ 2199 ∷ 2219 ∷ 1 ∷
+    1 ∷ 0 ∷ 1000 ∷ 0 ∷ 75 ∷ 1 ∷ 0 ∷ 331500 ∷ rest
 
 unfoldable pub small : List ℕ
 small = smallRow 1 0 []
 
 -- a motor by itself is done with this pickup and this cutoff
 abbrev keys : List ℕ → ℕ → ℕ → Worked
-keys l I C = done l (I ∷ 100 ∷ C ∷ drop 3 lent)
+keys l I C = done l (I ∷ 100 ∷ C ∷ 0 ∷ 0 ∷ drop 5 lent)
 
 -- the motor keyed through 7 / 5 A and offering pickups from `low` on, fed by a line keyed in primary mA. By P2 the line needs 1.1 times
 -- the motor's primary pickup
 unfoldable pub underLine : ℕ → List ℕ
 underLine low =
     with (with (offers (motorRow 1 2 []) 1 low 110040 1) 1 8 300000) 1 10 400000 ++
-    (2 ∷ 0 ∷ 1 ∷ 6000 ∷ 100000 ∷ 1000 ∷ 1000 ∷ 300000 ∷ 169440 ∷ 300000 ∷ 1000 ∷ 169430 ∷ 169460 ∷ 1 ∷ 1 ∷ 0 ∷ 1000 ∷ 0 ∷ 0 ∷ 0 ∷ [])
+    (2 ∷ 0 ∷ 1 ∷ 6000 ∷ 100000 ∷ 1000 ∷ 1000 ∷ 300000 ∷ 169440 ∷ 300000 ∷ 1000 ∷ 169430 ∷ 169460 ∷ 1 ∷
+    1 ∷ 0 ∷ 1000 ∷ 0 ∷ 0 ∷ 0 ∷ 0 ∷ 300000 ∷ [])
 
 -- A line of 400 V keyed in primary mA, with a pickup of 3,500,100 or more, fed by a transformer of 10,000 V keyed through 7 / 5 A. P2: 10 ×
 -- 7 × x / 5 × 10,000 ≥ 11 × 3,500,100 × 400, so 350 × x ≥ 11 × 3,500,100
 unfoldable pub supply : List ℕ
 supply =
-    1 ∷ 2 ∷ 1 ∷ 400 ∷ 2000000 ∷ 1000 ∷ 1000 ∷ 5300000 ∷ 3500600 ∷ 5000000 ∷ 1000 ∷ 3500100 ∷ 3500600 ∷ 250 ∷ 1 ∷ 0 ∷ 1000 ∷ 0 ∷ 0 ∷ 0 ∷
-    2 ∷ 0 ∷ 2 ∷ 10000 ∷ 100000 ∷ 1000 ∷ 1000 ∷ 300000 ∷ 118468 ∷ 308017 ∷ 1300 ∷ 110001 ∷ 110021 ∷ 1 ∷ 1 ∷ 0 ∷ 1000 ∷ 0 ∷ 7 ∷ 5 ∷ []
+    1 ∷ 2 ∷ 1 ∷ 400 ∷ 2000000 ∷ 1000 ∷ 1000 ∷ 5300000 ∷ 3500600 ∷ 5000000 ∷ 1000 ∷ 3500100 ∷ 3500600 ∷ 250 ∷
+    1 ∷ 0 ∷ 1000 ∷ 0 ∷ 0 ∷ 0 ∷ 0 ∷ 5000000 ∷
+    2 ∷ 0 ∷ 2 ∷ 10000 ∷ 100000 ∷ 1000 ∷ 1000 ∷ 300000 ∷ 118468 ∷ 308017 ∷ 1300 ∷ 110001 ∷ 110021 ∷ 1 ∷
+    1 ∷ 0 ∷ 1000 ∷ 0 ∷ 7 ∷ 5 ∷ 0 ∷ 308017 ∷ []
 
 -- its card, by the pickups of both rows
 abbrev supplyCard : ℕ → ℕ → List ℕ
-supplyCard I J = I ∷ 0 ∷ 3500600 ∷ J ∷ 300 ∷ 110006 ∷ drop 6 lent
+supplyCard I J = I ∷ 0 ∷ 3500600 ∷ 0 ∷ 0 ∷ J ∷ 300 ∷ 110006 ∷ 0 ∷ 0 ∷ drop 10 lent
 
 -- the same with 3,000,000 as the line's only pickup, this far and backed, and the transformer offering pickups from 110,011 on, which are
 -- 154,015.4 primary. P4: 12 × 154,015.4 × 10,000 = 10 × 4,620,462 × 400
@@ -66,11 +71,12 @@ backed far = with (with (with (offers supply 1 3000000 3000000 1) 1 8 far) 1 18 
 unfoldable pub pair : List ℕ
 pair =
     motorRow 1 3 (smallRow 2 3
-    (3 ∷ 0 ∷ 2 ∷ 6000 ∷ 290000 ∷ 1000 ∷ 1000 ∷ 600000 ∷ 258400 ∷ 671840 ∷ 1300 ∷ 16770 ∷ 16800 ∷ 1 ∷ 1 ∷ 0 ∷ 1000 ∷ 0 ∷ 100 ∷ 5 ∷ []))
+    (3 ∷ 0 ∷ 2 ∷ 6000 ∷ 290000 ∷ 1000 ∷ 1000 ∷ 600000 ∷ 258400 ∷ 671840 ∷ 1300 ∷ 16770 ∷ 16800 ∷ 1 ∷
+    1 ∷ 0 ∷ 1000 ∷ 0 ∷ 100 ∷ 5 ∷ 0 ∷ 671840 ∷ []))
 
 -- its card, by the first row's pickup and cutoff and the last row's pickup
 abbrev pairWith : ℕ → ℕ → ℕ → List ℕ
-pairWith I C J = I ∷ 100 ∷ C ∷ 2200 ∷ 100 ∷ 2210 ∷ J ∷ 400 ∷ 16796 ∷ 77 ∷ []
+pairWith I C J = I ∷ 100 ∷ C ∷ 0 ∷ 0 ∷ 2200 ∷ 100 ∷ 2210 ∷ 0 ∷ 0 ∷ J ∷ 400 ∷ 16796 ∷ 0 ∷ 0 ∷ 77 ∷ []
 
 unfoldable pub pairCard : List ℕ
 pairCard = pairWith 110003 110006 16776
@@ -97,8 +103,8 @@ onFractions =
     -- fitted, where rounded down it would be 20 × 154,008 = 10 × 308,016
     ∷ keys (with motor 1 10 308016) 110003 0
     -- the same as a line: 12 × 154,008.4 = 1,848,100.8
-    ∷ done (with (with motor 1 3 1) 1 10 184811) (110003 ∷ 0 ∷ 110006 ∷ drop 3 lent)
-    ∷ done (with (with motor 1 3 1) 1 10 184810) (110003 ∷ 0 ∷ 0 ∷ drop 3 lent)
+    ∷ done (with (with motor 1 3 1) 1 10 184811) (110003 ∷ 0 ∷ 110006 ∷ 0 ∷ 0 ∷ drop 5 lent)
+    ∷ done (with (with motor 1 3 1) 1 10 184810) (110003 ∷ 0 ∷ 0 ∷ 0 ∷ 0 ∷ drop 5 lent)
     -- through 75 / 1 A each condition at equality, and a mA off
     ∷ keys small 2200 2210
     ∷ keys (with (with small 1 5 150001) 1 8 300000) 2201 2210
@@ -107,10 +113,11 @@ onFractions =
     ∷ keys (with small 1 10 331499) 2200 0
     -- P2 above a row keyed at the secondary side: 1.1 × 154,030.8 = 169,433.88, where rounded down 169,433 would do and rounded up 169,434
     -- would not; 1.1 × 154,050.4 = 169,455.44 likewise
-    ∷ done (underLine 110022) (110022 ∷ 100 ∷ 110022 ∷ 169434 ∷ 400 ∷ 169440 ∷ drop 6 lent)
-    ∷ done (underLine 110036) (110036 ∷ 100 ∷ 110036 ∷ 169456 ∷ 400 ∷ 169440 ∷ drop 6 lent)
+    ∷ done (underLine 110022) (110022 ∷ 100 ∷ 110022 ∷ 0 ∷ 0 ∷ 169434 ∷ 400 ∷ 169440 ∷ 0 ∷ 0 ∷ drop 10 lent)
+    ∷ done (underLine 110036) (110036 ∷ 100 ∷ 110036 ∷ 0 ∷ 0 ∷ 169456 ∷ 400 ∷ 169440 ∷ 0 ∷ 0 ∷ drop 10 lent)
     -- P4 of it: its far is primary, 10 × 240,000 = 12 × 200,000
-    ∷ done (with (with (offers (underLine 110022) 2 200000 200000 1) 1 8 240000) 1 18 1) (110022 ∷ 100 ∷ 110022 ∷ 200000 ∷ 400 ∷ 200000 ∷ drop 6 lent)
+    ∷ done (with (with (offers (underLine 110022) 2 200000 200000 1) 1 8 240000) 1 18 1)
+    (110022 ∷ 100 ∷ 110022 ∷ 0 ∷ 0 ∷ 200000 ∷ 400 ∷ 200000 ∷ 0 ∷ 0 ∷ drop 10 lent)
     ∷ refused (with (with (offers (underLine 110022) 2 200000 200000 1) 1 8 239999) 1 18 1) 13 2 1
     -- P2 of a row keyed there above one in primary mA: 350 × 110,003 = 38,501,050 < 11 × 3,500,100, where rounded up 10 × 154,005 × 10,000 =
     -- 15,400,500,000 ≥ 4,400 × 3,500,100 = 15,400,440,000 would do; 350 × 110,011 = 11 × 3,500,350, where rounded down it would not
@@ -119,7 +126,7 @@ onFractions =
     ∷ refused (with (with supply 1 12 3500350) 2 13 110010) 11 2 0
     -- P4 at equality, where rounded up 12 × 154,016 × 10,000 would be above; with a mA less in far it is refused, where rounded down
     -- 12 × 154,015 × 10,000 = 18,481,800,000 ≤ 10 × 4,620,461 × 400 = 18,481,844,000 would do. The cutoff, 110,011, does not see its near fault
-    ∷ done (backed 4620462) (3000000 ∷ 0 ∷ 0 ∷ 110011 ∷ 300 ∷ 0 ∷ drop 6 lent)
+    ∷ done (backed 4620462) (3000000 ∷ 0 ∷ 0 ∷ 0 ∷ 0 ∷ 110011 ∷ 300 ∷ 0 ∷ 0 ∷ 0 ∷ drop 10 lent)
     ∷ refused (backed 4620461) 13 2 1
     -- 1 A beside 5 A under one transformer: 200 × 16,775 = 11 × (165,000 + 140,000), and a step below
     ∷ done pair pairCard
@@ -130,7 +137,7 @@ onFractions =
     ∷ done (offers (with (with (offers pair 1 110022 110040 1) 1 5 138000) 1 8 300000) 3 16716 16796 1) (pairWith 110022 0 16722)
     -- 20 / 1 A is the same ratio; in steps of 12 mA at the relay, and the cutoff then does not see its near fault
     ∷ done (rated pair 3 20 1) pairCard
-    ∷ done (with (with pair 3 13 16806) 3 14 12) (set (pairWith 110003 110006 16782) 8 0)
+    ∷ done (with (with pair 3 13 16806) 3 14 12) (set (pairWith 110003 110006 16782) 12 0)
     -- P3: 15 × 20 × 16,776 = 10 × 503,280
     ∷ done (with pair 3 8 503280) pairCard
     ∷ refused (with pair 3 8 503279) 12 3 0
@@ -202,22 +209,22 @@ held c n number at = keptIn pair c n (row n pair) number at 0
 unfoldable pub lentCards : List Worked
 lentCards =
     -- row 2, off the path: 500,000 are 37,500,000 primary, more than row 3 can be set above
-    held (set pairCard 3 500000) 1 11 3
-    ∷ held (set pairCard 3 500001) 1 9 2
-    ∷ held (set pairCard 3 0) 1 9 2
-    ∷ again (set pairCard 5 500000) 1 2 (set pairCard 5 500000)
+    held (set pairCard 5 500000) 1 11 3
     ∷ held (set pairCard 5 500001) 1 9 2
-    ∷ held (set pairCard 4 100000) 1 7 3
-    ∷ held (set pairCard 4 100001) 1 9 2
+    ∷ held (set pairCard 5 0) 1 9 2
+    ∷ again (set pairCard 7 500000) 1 2 (set pairCard 7 500000)
+    ∷ held (set pairCard 7 500001) 1 9 2
+    ∷ held (set pairCard 6 100000) 1 7 3
+    ∷ held (set pairCard 6 100001) 1 9 2
     -- read by its ratio: 11 × (75 × 2,201 + 140,003) = 3,355,858, so 16,779.3
-    ∷ again (set pairCard 3 2201) 1 2 (set (pairWith 110003 110006 16780) 3 2201)
+    ∷ again (set pairCard 5 2201) 1 2 (set (pairWith 110003 110006 16780) 5 2201)
     -- row 3, on the path
-    ∷ again (set pairCard 6 500000) 1 2 pairCard
-    ∷ held (set pairCard 6 500001) 1 9 3
-    ∷ again (set pairCard 8 500000) 1 2 pairCard
-    ∷ held (set pairCard 8 500001) 1 9 3
-    ∷ again (set pairCard 7 100000) 1 2 pairCard
-    ∷ held (set pairCard 7 100001) 1 9 3
+    ∷ again (set pairCard 10 500000) 1 2 pairCard
+    ∷ held (set pairCard 10 500001) 1 9 3
+    ∷ again (set pairCard 12 500000) 1 2 pairCard
+    ∷ held (set pairCard 12 500001) 1 9 3
+    ∷ again (set pairCard 11 100000) 1 2 pairCard
+    ∷ held (set pairCard 11 100001) 1 9 3
     -- the replaced row, first on the path and last
     ∷ again (set pairCard 0 100000000) 1 2 pairCard
     ∷ held (set pairCard 0 100000001) 1 9 1
@@ -226,18 +233,18 @@ lentCards =
     ∷ held (set pairCard 2 100000001) 1 9 1
     ∷ again (set pairCard 1 100000) 1 2 pairCard
     ∷ held (set pairCard 1 100001) 1 9 1
-    ∷ again (set (set pairCard 6 100000000) 8 100000000) 3 1 pairCard
-    ∷ held (set pairCard 6 100000001) 3 9 3
-    ∷ held (set (set pairCard 6 100000000) 0 500001) 3 9 1
+    ∷ again (set (set pairCard 10 100000000) 12 100000000) 3 1 pairCard
+    ∷ held (set pairCard 10 100000001) 3 9 3
+    ∷ held (set (set pairCard 10 100000000) 0 500001) 3 9 1
     -- 500,000 through 20,000 / 1 A are 10,000,000,000 primary
-    ∷ keptIn (rated (offers pair 2 5 5 1) 2 20000 1) (set pairCard 3 500000) 1 (row 1 pair) 11 3 0
+    ∷ keptIn (rated (offers pair 2 5 5 1) 2 20000 1) (set pairCard 5 500000) 1 (row 1 pair) 11 3 0
     -- a row keyed in primary mA beside the replaced one: to 100,000,000
     ∷ becomes supply (supplyCard 3500100 110004) 2 1 supply (supplyCard 3500100 110004)
     ∷ keptIn supply (supplyCard 100000000 110004) 2 (row 2 supply) 11 2 0
     ∷ keptIn supply (supplyCard 100000001 110004) 2 (row 2 supply) 9 1 0
     -- 4 before it, in a new row too
-    ∷ keptIn pair (set pairCard 3 500001) 1 (row 1 (with (with pair 1 13 500000) 1 19 1001)) 4 1 13
-    ∷ keptIn pair (set pairCard 3 500001) 1 (row 1 (with pair 1 14 500001)) 4 1 14
+    ∷ keptIn pair (set pairCard 5 500001) 1 (row 1 (with (with pair 1 13 500000) 1 19 1001)) 4 1 13
+    ∷ keptIn pair (set pairCard 5 500001) 1 (row 1 (with pair 1 14 500001)) 4 1 14
     ∷ []
 
 -- the pair with its first motor keyed in primary mA: 154,004 by P1 and 154,009 as cutoff, and 20 × 154,009 is above 10 × 308,017
@@ -253,10 +260,10 @@ keyedChain n low = rated (offers (chain 1 1 1) n low 55000 55) n 100 5
 
 -- cards of the chain, by their first two rows and the third; a third row that is not the chain's
 abbrev chainWith : ℕ → ℕ → ℕ → ℕ → List ℕ → List ℕ
-chainWith I C I₂ C₂ rest = I ∷ 100 ∷ C ∷ I₂ ∷ 400 ∷ C₂ ∷ rest
+chainWith I C I₂ C₂ rest = I ∷ 100 ∷ C ∷ 0 ∷ 0 ∷ I₂ ∷ 400 ∷ C₂ ∷ 0 ∷ 0 ∷ rest
 
 abbrev other : List ℕ
-other = 9 ∷ 9 ∷ 9 ∷ 77 ∷ []
+other = 9 ∷ 9 ∷ 9 ∷ 0 ∷ 0 ∷ 77 ∷ []
 
 -- a row goes over to the other side
 unfoldable pub exchanges : List Worked
@@ -280,17 +287,17 @@ exchanges =
     -- 5,501 × 20 = 110,020, and 1.1 times that is above 121,000: the second row goes to 122,100, and the third to 135,300. The cutoff would be
     -- 11,001 × 20 = 220,020, and 12 times that is above 10 × 264,000
     ∷ becomes (chain 1 1 1) (chainWith 110000 220000 121000 220000 other) 1 3 (keyedChain 1 551)
-    (chainWith 5501 0 122100 220000 (135300 ∷ 700 ∷ 220000 ∷ 77 ∷ []))
+    (chainWith 5501 0 122100 220000 (135300 ∷ 700 ∷ 220000 ∷ 0 ∷ 0 ∷ 77 ∷ []))
     -- the second keyed there, 6,050 × 20 = 121,000: it stops the climb where its card row is as it was on its own side
     ∷ becomes (keyedChain 2 550) (chainWith 110000 220000 6050 11000 other) 1 2 (with (keyedChain 2 550) 1 5 90000)
     (chainWith 99000 220000 6050 11000 other)
     ∷ becomes (keyedChain 2 550) (chainWith 110000 220000 121000 220000 other) 1 3 (with (keyedChain 2 550) 1 5 90000)
-    (chainWith 99000 220000 6050 11000 (133100 ∷ 700 ∷ 220000 ∷ 77 ∷ []))
+    (chainWith 99000 220000 6050 11000 (133100 ∷ 700 ∷ 220000 ∷ 0 ∷ 0 ∷ 77 ∷ []))
     -- and it replaced, in both directions, on the card of the whole list
-    ∷ becomes (chain 1 1 1) (chainWith 110000 220000 121000 220000 (133100 ∷ 700 ∷ 220000 ∷ 77 ∷ [])) 2 2 (keyedChain 2 550)
-    (chainWith 110000 220000 6050 11000 (133100 ∷ 700 ∷ 220000 ∷ 77 ∷ []))
-    ∷ becomes (keyedChain 2 550) (chainWith 110000 220000 6050 11000 (133100 ∷ 700 ∷ 220000 ∷ 77 ∷ [])) 2 2 (chain 1 1 1)
-    (chainWith 110000 220000 121000 220000 (133100 ∷ 700 ∷ 220000 ∷ 77 ∷ []))
+    ∷ becomes (chain 1 1 1) (chainWith 110000 220000 121000 220000 (133100 ∷ 700 ∷ 220000 ∷ 0 ∷ 0 ∷ 77 ∷ [])) 2 2 (keyedChain 2 550)
+    (chainWith 110000 220000 6050 11000 (133100 ∷ 700 ∷ 220000 ∷ 0 ∷ 0 ∷ 77 ∷ []))
+    ∷ becomes (keyedChain 2 550) (chainWith 110000 220000 6050 11000 (133100 ∷ 700 ∷ 220000 ∷ 0 ∷ 0 ∷ 77 ∷ [])) 2 2 (chain 1 1 1)
+    (chainWith 110000 220000 121000 220000 (133100 ∷ 700 ∷ 220000 ∷ 0 ∷ 0 ∷ 77 ∷ []))
     ∷ []
 
 unfoldable pub sideTable : List Worked

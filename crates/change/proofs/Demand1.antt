@@ -1,6 +1,6 @@
 -- DEMAND 1 for a replacement, of any list, card, place and new row (specs/Gets.antt):
 --     replacement-gets    it gets an answer exactly when the rules give it, at the first place, with all that comes before it in the
---                         order 2, 3, 10, 4, 5, 9, then 11, 12 or 13 before 7 along the path as far as the climb goes, absent; and none otherwise
+--                         order 2, 3, 10, 4, 5, 9, then 11, 12 or 13, 14, 7 along the path as far as the climb goes, absent; and none otherwise
 --     refused-as-lent     any refusal leaves list and card as they were lent
 -- `replaced` is the definition that the public entry's contract cites (specs/Replace.antt).
 use mathlib.Core.Path.{_≡_, refl, sym, ap, _∙_, subst}

@@ -13,7 +13,7 @@ use Rattle.change.specs.Edit.{putList, editTest}
 use Rattle.path.specs.CardTest.{cardTest}
 use Rattle.path.specs.Reach.{reach}
 
--- row i of the list l is new: 4, 5, 9, then 11, 12 or 13 before 7 along the rows worked out
+-- row i of the list l is new: 4, 5, 9, then 11, 12 or 13, 14, 7 along the rows worked out
 unfoldable pub reworked : List ℕ → ℕ → List ℕ → Worked
 reworked l i c = onPassed (rowsTest l) (onPassed (cardTest l i c) (workOut l (reach l i c) c))
 
