@@ -16,9 +16,10 @@ use Rattle.rows.proofs.InRangeLaws.{passed-feeds}
 use Rattle.rows.proofs.TestLaws.{SizeRight, size-passed}
 use Rattle.rowwise.specs.Sums.{askCount}
 use Rattle.rowwise.specs.WorkOut.{Worked, onPassed}
-use Rattle.feeding.specs.Fed.{linkCount, Linked, LinkReady}
+use Rattle.feeding.specs.Fed.{linkCount, LinkReady}
 use Rattle.rowwise.proofs.LinkLaws.{link-ready}
-use Rattle.calculate.specs.Ready.{AllReady, WorkTested, Answered}
+use Rattle.rowwise.specs.Working.{Unworked}
+use Rattle.calculate.specs.Ready.{WorkTested, Answered}
 use Rattle.calculate.specs.Whole.{Result, ending, calculation, workedAs, whole}
 use Rattle.calculate.proofs.FrameLaws.{framed, calculation-frame}
 
@@ -49,25 +50,19 @@ module _ (l c : List ℕ) where
       answered-worked a c′ = subst (λ (z : Result). Answered z a c′) (sym worked)
 
 module _ (l c : List ℕ) (r : WorkTested l c) where
-  pub links-ready : (links : List ℕ) → rowsMost * linkCount ≤ length links → LinkReady l links
-  links-ready links h = link-ready l links (passed-feeds l (r .tested)) (r .rows-to) h
+  pub links-ready : (links : List ℕ) → rowsMost * linkCount ≤ length links → ((x : ℕ) → getD links x 0 ≡ 0) → LinkReady l links
+  links-ready links = link-ready l links (passed-feeds l (r .tested)) (r .rows-to)
 
   -- on a card of its own with room for every row, and sums that are 0
-  pub own-ready :
-      (links z y : List ℕ) → Linked l links → cardMost ≤ length z → rowsMost * askCount ≤ length y → ((x : ℕ) → getD y x 0 ≡ 0) →
-      AllReady l links (rows l) z y
-  own-ready links z y e h k q =
+  pub own-unworked :
+      (z y : List ℕ) → cardMost ≤ length z → rowsMost * askCount ≤ length y → ((x : ℕ) → getD y x 0 ≡ 0) → Unworked l z y
+  own-unworked z y h k q =
       record {
-        all-rows = refl;
-        linked = e;
-        unworked =
-            record {
-              rows-to = r .rows-to;
-              tested = r .tested;
-              card-room = omega (arith, r .rows-to);
-              sums-room = omega (arith, r .rows-to);
-              sums-clear = q;
-            };
+        rows-to = r .rows-to;
+        tested = r .tested;
+        card-room = omega (arith, r .rows-to);
+        sums-room = omega (arith, r .rows-to);
+        sums-clear = q;
       }
 
   calculates :

@@ -6,18 +6,10 @@ use lib.ListN.{length}
 use Rattle.answers.specs.declared.Answer.{Answer}
 use Rattle.answers.specs.Answer.{givenBy}
 use Rattle.answers.specs.declared.Tested.the-variants.{Passed}
-use Rattle.feeding.specs.Fed.{Linked}
 use Rattle.layout.specs.Counts.{columnCount, rowsMost}
 use Rattle.layout.specs.List.{rows}
 use Rattle.rows.specs.Tests.{rowsTest}
-use Rattle.rowwise.specs.Working.{Unworked}
 use Rattle.calculate.specs.Whole.{Result}
-
--- all n rows of a list, linked, none worked out
-pub record AllReady (l links : List ℕ) (n : ℕ) (c s : List ℕ) : Type 0 where
-  pub all-rows : n ≡ rows l
-  pub linked : Linked l links
-  pub unworked : Unworked l c s
 
 -- a list of at most 256 rows that passed the tests of its rows, with room for its card
 pub record WorkTested (l c : List ℕ) : Type 0 where

@@ -12,29 +12,13 @@ use layout::FIELDS;
 use rows::test_rows;
 use rows::test_size;
 use rowwise::SUMS;
-use rowwise::work_row;
+use rowwise::work_rows;
 ghost use mathlib.Core.Path.{_≡_};
 ghost use mathlib.Core.List.{_++_};
 ghost use Prim.Native.Nat.{_≤_};
 ghost use lib.ListN.{length, take, drop};
-ghost use Rattle.calculate.specs.Ready.{AllReady, WorkTested, Answered, Gave};
+ghost use Rattle.calculate.specs.Ready.{WorkTested, Answered, Gave};
 ghost use Rattle.calculate.specs.Whole.{ending, calculation, workedAs, whole};
-
-// Works out every row, in ascending order.
-fn work_all(list: &[u64], links: &[u64], n: usize, card: &mut [u64], sums: &mut [u64]) -> Tested
-    requires { ⌜ AllReady (now list) (now links) n (now card) (now sums) ⌝ }
-    ensures { λ t. ⌜ calculation (now (list .entry)) (now (card .entry)) ≡ workedAs t (now (card .exit)) ⌝ }
-{
-    let mut i = 0;
-    while i < n {
-        let tested = work_row(list, links, i, card, sums);
-        if let Tested::Refused(a) = tested {
-            return Tested::Refused(a);
-        }
-        i += 1;
-    }
-    Tested::Passed
-}
 
 fn copy_front(to: &mut [u64], from: &[u64], n: usize)
     requires { ⌜ (n ≤ length (now to)) × (n ≤ length (now from)) ⌝ }
@@ -49,11 +33,11 @@ fn work_tested(list: &[u64], card: &mut [u64]) -> Answer
     ensures { λ a. ⌜ Answered (ending (now (card .entry)) (calculation (now (list .entry)) (now (card .entry)))) a (now (card .exit)) ⌝ }
 {
     let n = list.len() / FIELDS;
-    let mut links = [0u64; LINKS];
+    let mut links = [0u8; LINKS];
     link(list, &mut links);
     let mut out = [0u64; CARD];
     let mut sums = [0u64; SUMS];
-    let worked = work_all(list, &links, n, &mut out, &mut sums);
+    let worked = work_rows(list, &links, 0, n, &mut out, &mut sums);
     if let Tested::Refused(a) = worked {
         return a;
     }

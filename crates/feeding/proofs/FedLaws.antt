@@ -73,10 +73,6 @@ module _ (l : List ℕ) (i : ℕ) where
   pub fedFrom-from : (j : ℕ) → j ≤ rows l → j ≤ fedFrom l i j
   fedFrom-from j h = fedFrom-next j h .from
 
-  -- a walk goes up
-  pub fedFrom-rises : (j x : ℕ) → j < rows l → x ≡ fedFrom l i (j + 1) → j < x
-  fedFrom-rises j x h e = omega (arith, fedFrom-from (j + 1) (omega arith))
-
   pub fedFrom-feeds : (j : ℕ) → fedFrom l i j < rows l → feeds l i (fedFrom l i j) ≡ true
   fedFrom-feeds j b =
       ⊎-elim

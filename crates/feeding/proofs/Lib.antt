@@ -1,4 +1,3 @@
 pub mod FedLaws
 pub mod LinkLaws
 pub mod OverLaws
-pub mod UnlinkLaws

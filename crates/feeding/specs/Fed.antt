@@ -1,16 +1,17 @@
 -- [01 §2] The rows that a row feeds, ascending: "fed rows are those it feeds directly". They are found once for the whole list and kept as
 -- two numbers a row, so that going through the fed rows of every row takes no more steps than the list has rows. Rows are counted
--- from 0. Definitions only.
+-- from 0, but the numbers kept are those of the list, from 1. Definitions only.
 use mathlib.Core.Path.{_≡_}
-use mathlib.Core.Bool.{Bool, true}
+use mathlib.Core.Bool.{Bool, true, cond}
 use mathlib.Core.Logic.{_≢_}
 use mathlib.Core.List.{List}
 use Prim.Native.Nat.{ℕ, _+_, _-_, _*_, _≤_, _<_}
-use lib.Dec.{eqb}
+use lib.Dec.{eqb, ltb}
 use lib.ListN.{length, getD}
 use Rattle.fold.specs.declared.Found.{Found}
 use Rattle.fold.specs.declared.Found.the-variants.{At, Nothing}
 use Rattle.fold.specs.First.{first}
+use Rattle.layout.specs.Counts.{rowsMost}
 use Rattle.layout.specs.Fields.{atFeeder}
 use Rattle.layout.specs.List.{rows, field}
 
@@ -53,12 +54,22 @@ atNext = 1
 abbrev pub linkAt : List ℕ → ℕ → ℕ → ℕ
 linkAt links i k = getD links (i * linkCount + k) 0
 
+-- what is kept for row x of n rows: its number; 0 where it is none of them
+unfoldable pub linkTo : ℕ → ℕ → ℕ
+linkTo n x = cond (ltb x n) (x + 1) 0
+
 pub record Linked (l links : List ℕ) : Type 0 where
   pub room : rows l * linkCount ≤ length links
-  pub firsts : (i : ℕ) → i < rows l → linkAt links i atFirst ≡ fedFrom l i 0
-  pub nexts : (i j : ℕ) → j < rows l → feeds l i j ≡ true → linkAt links j atNext ≡ fedFrom l i (j + 1)
+  pub firsts : (i : ℕ) → i < rows l → linkAt links i atFirst ≡ linkTo (rows l) (fedFrom l i 0)
+  pub nexts : (i j : ℕ) → j < rows l → feeds l i j ≡ true → linkAt links j atNext ≡ linkTo (rows l) (fedFrom l i (j + 1))
 
--- every row's feeder is a row of the list, or none; and there is room
+-- row j is fed by the source, or by a row behind it
+abbrev pub FeederBehind : List ℕ → ℕ → Type 0
+FeederBehind l j = feederOf l j ≢ 0 → (j + 1 < feederOf l j) × (feederOf l j ≤ rows l)
+
+-- every row is; no row is linked yet; and there is room
 pub record LinkReady (l links : List ℕ) : Type 0 where
-  pub feeders : (j : ℕ) → j < rows l → feederOf l j ≤ rows l
+  pub rows-to : rows l ≤ rowsMost
+  pub feeders : (j : ℕ) → j < rows l → FeederBehind l j
   pub links-room : rows l * linkCount ≤ length links
+  pub links-clear : (x : ℕ) → getD links x 0 ≡ 0

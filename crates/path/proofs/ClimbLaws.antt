@@ -3,7 +3,7 @@
 use mathlib.Core.Path.{_≡_, refl, sym, ap, _∙_}
 use mathlib.Core.Bool.{Bool, true, not}
 use mathlib.Core.List.{List}
-use Prim.Native.Nat.{ℕ, _-_, _≤_, _<_}
+use Prim.Native.Nat.{ℕ, _+_, _-_, _≤_, _<_}
 use native.Mathlib.Omega.{arith}
 use Rattle.answers.specs.declared.Answer.{Answer}
 use Rattle.answers.specs.declared.Tested.{Tested}
@@ -17,10 +17,11 @@ use Rattle.settle.specs.Conditions.{fed}
 use Rattle.settle.specs.Fed.{CardBounded}
 use Rattle.settle.specs.Settle.{shown, settled}
 use Rattle.settle.proofs.SameLaws.{fed-below}
-use Rattle.rowwise.specs.Ready.{WorkReady, Stepped}
-use Rattle.rowwise.specs.Sums.{pushed, stepBy, settledAt, step}
+use Rattle.rowwise.specs.Ready.{WorkReady, RowsReady, Stepped}
+use Rattle.rowwise.specs.Sums.{pushed, stepBy, settledAt, step, steps}
 use Rattle.rowwise.specs.WorkOut.{onSettled, workOut}
 use Rattle.rowwise.proofs.EndLaws.{never-passed, same-answer}
+use Rattle.rowwise.proofs.StepsLaws.{one-row, one-row-ready}
 use Rattle.rowwise.proofs.WorkingLaws.{work-ready, work-settles, settled-to}
 use Rattle.path.specs.Path.{pathOf, onPath}
 use Rattle.path.specs.declared.HowFar.{HowFar}
@@ -52,6 +53,9 @@ module _ (l links : List ℕ) (i : ℕ) (c s : List ℕ) (r : ClimbReady l links
       work-ready l (off l i) (onPath l i) c s (r .working) i (r .is-row) feeder-on links (r .linked)
       (on-self l (r .working .feeds) i (r .is-row)) fed-off
 
+  pub climb-ready : RowsReady l links i (i + 1 - i) c s
+  climb-ready = one-row-ready l i c s links climb-works
+
   settles : settledAt l i c s ≡ settled (viewOf l) (cardRowAt c) i
   settles =
       work-settles l (off l i) (onPath l i) c s (r .working) i (r .is-row) (on-self l (r .working .feeds) i (r .is-row)) fed-off
@@ -60,7 +64,10 @@ module _ (l links : List ℕ) (i : ℕ) (c s : List ℕ) (r : ClimbReady l links
   comes = sym settles
 
   -- the row's own step
-  module _ (t : Tested) (c′ s′ : List ℕ) (z : Stepped (step l i c s) t c′ s′) where
+  module _ (t : Tested) (c′ s′ : List ℕ) (worked : Stepped (steps l i (i + 1 - i) c s) t c′ s′) where
+    z : Stepped (step l i c s) t c′ s′
+    z = rw (one-row l i c s) at worked
+
     pub climb-refused :
         (feeding : Bool) (a : Answer) → t ≡ Refused a → WorkedOut l (reachFrom l feeding (pathOf l i) c) c (HowFar.Refused a) c′
     unfolding step stepBy workOut onSettled farOf cardOf

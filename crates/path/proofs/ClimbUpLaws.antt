@@ -20,7 +20,7 @@ use Rattle.layout.specs.List.{rows, field, rowAt}
 use Rattle.layout.proofs.CardLaws.{putCardRow-own, putCardRow-back}
 use Rattle.settle.specs.Settle.{shown}
 use Rattle.rowwise.specs.Ready.{Stepped}
-use Rattle.rowwise.specs.Sums.{pushed, step}
+use Rattle.rowwise.specs.Sums.{pushed, steps}
 use Rattle.rowwise.specs.WorkOut.{onSettled, workOut}
 use Rattle.rowwise.proofs.WorkingLaws.{work-next}
 use Rattle.path.specs.Path.{pathOf, onPath}
@@ -36,7 +36,7 @@ use Rattle.path.proofs.ReachLaws.{stops-exactly, get-reached, reaches-f
 use Rattle.path.proofs.ClimbLaws.{off, climb-works, Comes}
 
 module _ {l links : List ℕ} {i : ℕ} {c s : List ℕ} {r : ClimbReady l links i c s} {t : Tested} {c′ s′ : List ℕ}
-    {z : Stepped (step l i c s) t c′ s′} (p : Comes l links i c s r t c′ s′ z) (feeding : Bool) where
+    {z : Stepped (steps l i (i + 1 - i) c s) t c′ s′} (p : Comes l links i c s r t c′ s′ z) (feeding : Bool) where
   abbrev feeds : Feeds l
   feeds = r .working .feeds
 

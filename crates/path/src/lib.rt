@@ -20,7 +20,7 @@ use layout::row_at;
 use layout::same_card_row;
 use rowwise::SUMS;
 use rowwise::push;
-use rowwise::work_row;
+use rowwise::work_rows;
 use sides::PRIMARY_MOST;
 use sides::SECONDARY_MOST;
 ghost use mathlib.Core.Path.{_≡_};
@@ -165,7 +165,7 @@ fn stays(card: &[u64], i: usize, old: CardRow, feeding: bool) -> bool
 // puts the row's old numbers back. `links` are those of the list.
 fn climb(
     list: &[u64],
-    links: &[u64],
+    links: &[u8],
     i: usize,
     card: &mut [u64],
     sums: &mut [u64],
@@ -176,7 +176,7 @@ fn climb(
         (now (card .entry)) f (now (card .exit)) ⌝ }
 {
     let old = card_row_at(card, i);
-    let own = work_row(list, links, i, card, sums);
+    let own = work_rows(list, links, i, i + 1, card, sums);
     if let Tested::Refused(a) = own {
         return HowFar::Refused(a);
     }
@@ -202,7 +202,7 @@ pub fn work_path(list: &[u64], i: usize, card: &mut [u64]) -> HowFar
     requires { ⌜ PathReady (now list) i (now card) ⌝ }
     ensures { λ f. ⌜ WorkedOut (now (list .entry)) (reach (now (list .entry)) i (now (card .entry))) (now (card .entry)) f (now (card .exit)) ⌝ }
 {
-    let mut links = [0u64; LINKS];
+    let mut links = [0u8; LINKS];
     link(list, &mut links);
     let mut sums = [0u64; SUMS];
     push_rest(list, i, card, &mut sums);

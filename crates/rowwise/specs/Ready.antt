@@ -4,6 +4,7 @@ use mathlib.Core.List.{List}
 use Prim.Native.Nat.{ℕ, _+_, _-_, _*_, _≤_, _<_}
 use lib.ListN.{length}
 use Rattle.answers.specs.declared.Tested.{Tested}
+use Rattle.answers.specs.declared.Tested.the-variants.{Passed}
 use Rattle.layout.specs.declared.CardRow.{CardRow}
 use Rattle.layout.specs.declared.Row.{Row}
 use Rattle.layout.specs.Counts.{columnCount}
@@ -12,7 +13,7 @@ use Rattle.layout.specs.Range.{Bounded, AllBounded}
 use Rattle.layout.specs.View.{viewOf}
 use Rattle.settle.specs.Fed.{FedBounded, CardBounded}
 use Rattle.settle.specs.Ready.{FedReady}
-use Rattle.rowwise.specs.Sums.{askCount, fedAt, Step}
+use Rattle.rowwise.specs.Sums.{askCount, fedAt, Step, steps}
 
 -- a row's feeder has its place in the sums, and a load more does not overflow there
 pub record HasFeeder (r : Row) (s : List ℕ) : Type 0 where
@@ -34,6 +35,11 @@ pub record WorkReady (l links : List ℕ) (i : ℕ) (c s : List ℕ) : Type 0 wh
   pub fed-bounded : FedBounded (fedAt s i)
   pub fed-ready : FedReady l links c i
   pub feeder : HasFeeder (rowAt l i) s
+
+-- each of n rows from i on can be worked out on the card and the sums that those before it leave
+pub record RowsReady (l links : List ℕ) (i n : ℕ) (c s : List ℕ) : Type 0 where
+  pub each :
+      (k : ℕ) → k < n → steps l i k c s .tested ≡ Passed → WorkReady l links (i + k) (steps l i k c s .card) (steps l i k c s .sums)
 
 -- the answer, the card and the sums are the step's
 pub record Stepped (z : Step) (t : Tested) (c s : List ℕ) : Type 0 where

@@ -1,7 +1,7 @@
 -- What each row's fed rows ask of its pickup, kept as three numbers a row while rows are worked out. Definitions only.
 use mathlib.Core.Bool.{cond}
 use mathlib.Core.List.{List, [], _∷_}
-use Prim.Native.Nat.{ℕ, _+_, _-_, _*_, max}
+use Prim.Native.Nat.{ℕ, zero, suc, _+_, _-_, _*_, max}
 use lib.Dec.{eqb}
 use lib.ListN.{getD}
 use lib.Seq.{sets}
@@ -66,3 +66,14 @@ settledAt l i c s = settledBy (viewOf l) (cardRowAt c) i (rowAt l i) (fedAt s i)
 
 unfoldable pub step : List ℕ → ℕ → List ℕ → List ℕ → Step
 step l i c s = stepBy l i c s (settledAt l i c s)
+
+-- what follows a step: the next one, unless it is refused
+unfoldable pub onStep : Tested → Step → Step → Step
+onStep Passed z next = next
+onStep (Refused a) z next = z
+
+-- the n rows i, i + 1, .. worked out so, one after the other, up to the first that is refused
+unfoldable pub steps : List ℕ → ℕ → ℕ → List ℕ → List ℕ → Step
+steps l i zero c s = record { tested = Passed; card = c; sums = s }
+steps l i (suc n) c s =
+    onStep (steps l i n c s .tested) (steps l i n c s) (step l (i + n) (steps l i n c s .card) (steps l i n c s .sums))

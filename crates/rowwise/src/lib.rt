@@ -1,4 +1,4 @@
-// One row worked out on a lent card. What a row's fed rows ask of its pickup is kept in `sums`, three numbers a row, and each row that
+// Rows worked out on a lent card, one after the other. What a row's fed rows ask of its pickup is kept in `sums`, three numbers a row, and each row that
 // is worked out adds its own for the row that feeds it. For its time the row goes through its fed rows once, by `links`.
 use answers::Answer;
 use answers::Tested;
@@ -15,10 +15,10 @@ use settle::asks;
 use settle::card_row;
 use settle::settle;
 ghost use mathlib.Core.Path.{_≡_};
-ghost use Prim.Native.Nat.{_+_, _*_, _<_, _≤_};
+ghost use Prim.Native.Nat.{_+_, _-_, _*_, _<_, _≤_};
 ghost use lib.ListN.{length};
-ghost use Rattle.rowwise.specs.Ready.{PushReady, WorkReady, Stepped};
-ghost use Rattle.rowwise.specs.Sums.{askCount, fedAt, putFed, joined, pushed, step};
+ghost use Rattle.rowwise.specs.Ready.{PushReady, WorkReady, RowsReady, Stepped};
+ghost use Rattle.rowwise.specs.Sums.{askCount, fedAt, putFed, joined, pushed, step, steps};
 
 // What is asked of a row is so many numbers; room for those of the longest list.
 const ASKS: usize = 3;
@@ -70,7 +70,7 @@ pub fn push(r: Row, k: CardRow, sums: &mut [u64])
 }
 
 // Works out one row: its settings go to the card, what it asks to the sums. A refusal changes neither.
-pub fn work_row(list: &[u64], links: &[u64], i: usize, card: &mut [u64], sums: &mut [u64]) -> Tested
+fn work_row(list: &[u64], links: &[u8], i: usize, card: &mut [u64], sums: &mut [u64]) -> Tested
     requires { ⌜ WorkReady (now list) (now links) i (now card) (now sums) ⌝ }
     ensures { λ t. ⌜ Stepped (step (now (list .entry)) i (now (card .entry)) (now (sums .entry))) t (now (card .exit)) (now (sums .exit)) ⌝ }
 {
@@ -84,4 +84,28 @@ pub fn work_row(list: &[u64], links: &[u64], i: usize, card: &mut [u64], sums: &
             Tested::Passed
         }
     }
+}
+
+// Works out the rows from one on, and below another, up to the first that is refused. A climb, too, calls it for each of its rows: with
+// one caller, what a row takes is compiled into this loop.
+pub fn work_rows(
+    list: &[u64],
+    links: &[u8],
+    from: usize,
+    to: usize,
+    card: &mut [u64],
+    sums: &mut [u64],
+) -> Tested
+    requires { ⌜ RowsReady (now list) (now links) from (to - from) (now card) (now sums) ⌝ }
+    ensures { λ t. ⌜ Stepped (steps (now (list .entry)) from (to - from) (now (card .entry)) (now (sums .entry))) t (now (card .exit)) (now (sums .exit)) ⌝ }
+{
+    let mut i = from;
+    while i < to {
+        let tested = work_row(list, links, i, card, sums);
+        if let Tested::Refused(a) = tested {
+            return Tested::Refused(a);
+        }
+        i += 1;
+    }
+    Tested::Passed
 }

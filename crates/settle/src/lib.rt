@@ -227,7 +227,7 @@ fn cutoff_at(r: Row) -> Cutoff
 }
 
 // The least settings of row i, whose fields are r, or the refusal: RANGE, OWN ZONE or BACKUP before CURVE, and CURVE before DELAY.
-pub fn settle(list: &[u64], links: &[u64], card: &[u64], i: usize, r: Row, f: Fed) -> Settled
+pub fn settle(list: &[u64], links: &[u8], card: &[u64], i: usize, r: Row, f: Fed) -> Settled
     requires { ⌜ Listed (now list) i r × FedBounded f × FedReady (now list) (now links) (now card) i ⌝ }
     ensures { λ s. ⌜ s ≡ settledBy (viewOf (now (list .entry))) (cardRowAt (now (card .entry))) i r f ⌝ }
 {

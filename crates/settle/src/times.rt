@@ -15,7 +15,6 @@ use grid::greater;
 use grid::least_on;
 use layout::AT_DEVICE;
 use layout::CardRow;
-use layout::FIELDS;
 use layout::Row;
 use layout::card_row_at;
 use layout::field_at;
@@ -122,21 +121,21 @@ fn ask(list: &[u64], card: &[u64], i: usize, r: Row, pickup: Primary, j: usize) 
 }
 
 // What all the rows that row i feeds ask, gone through in ascending order.
-fn walk(list: &[u64], links: &[u64], card: &[u64], i: usize, r: Row, pickup: Primary) -> Wanted
+fn walk(list: &[u64], links: &[u8], card: &[u64], i: usize, r: Row, pickup: Primary) -> Wanted
     requires { ⌜ Listed (now list) i r × PrimaryBounded pickup × FedReady (now list) (now links) (now card) i ⌝ }
     ensures { λ a. ⌜ WalkIs (viewOf (now (list .entry))) (cardRowAt (now (card .entry))) i r pickup a ⌝ }
 {
-    let n = list.len() / FIELDS;
     let mut from = 0;
-    let mut j = first_fed(list, links, i);
-    while j < n {
+    let mut next = first_fed(list, links, i);
+    while next != 0 {
+        let j = next - 1;
         match ask(list, card, i, r, pickup, j) {
             Wanted::Stuck(place) => {
                 return Wanted::Stuck(place);
             }
             Wanted::From(b) => {
                 from = greater(from, b);
-                j = next_fed(list, links, j);
+                next = next_fed(list, links, j);
             }
         }
     }
@@ -185,7 +184,7 @@ fn least_time(r: Row, m: u64, from: u64) -> Found
 // The least setting of row i, whose fields are r, at its pickup; CURVE before DELAY.
 pub fn time_row(
     list: &[u64],
-    links: &[u64],
+    links: &[u8],
     card: &[u64],
     i: usize,
     r: Row,

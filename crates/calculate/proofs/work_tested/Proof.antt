@@ -1,45 +1,54 @@
 -- `calculate::work_tested` meets its contract: the rows are linked and worked out on a local card, which stands for the lent one, since a
 -- calculation does not depend on the card before it.
-use Prim.Native.Nat.{_*_}
+use mathlib.Core.List.{List}
+use Prim.Native.Nat.{ℕ, _*_, _≤_}
 use native.Mathlib.Omega.{arith}
 use borrow.Author.Needs.{needs}
 use mathlib.Core.Path.{_≡_}
 use lib.Dec.{lit≤}
-use lib.ListN.{length}
+use lib.ListN.{length, replicate}
 use Rattle.layout.specs.Counts.{cardMost, rowsMost}
+use Rattle.feeding.specs.Fed.{linkCount}
 use Rattle.rowwise.specs.Sums.{askCount}
+use Rattle.rowwise.specs.Working.{Unworked}
 use Rattle.rowwise.proofs.StartLaws.{clear-reads}
-use Rattle.calculate.proofs.AnswerLaws.{links-ready, own-ready, answered-refused, answered-done}
+use Rattle.calculate.proofs.AllLaws.{all-rows-ready, all-worked}
+use Rattle.calculate.proofs.AnswerLaws.{links-ready, own-unworked, answered-refused, answered-done}
 use Rattle.calculate.proofs.work_tested.Statement.{statement}
 use Rattle.calculate.proofs.work_tested.Tie as tie
 
 -- from where the rows are worked out back to the links, and to the start
-abbrev linked : tie.After-work-all → tie.After-link
+abbrev linked : tie.After-work-rows → tie.After-link
 linked c = c .before .before .before .before .before
 
 abbrev start : tie.After-link → tie.Start
 start c = c .before .before .before .before
 
+-- the sums are 0 at first, and there is room
+unworked : (s : tie.Start) (z : List ℕ) → cardMost ≤ length z → Unworked (s .args .list .now) z (replicate (rowsMost * askCount) 0)
+unworked s z room =
+    own-unworked (s .args .list .now) (s .args .card .now) (s .pre) z _ room (lit≤ tt) (clear-reads (rowsMost * askCount))
+
 slice-aggregate-link : tie.Need-slice-aggregate-link
 slice-aggregate-link c = search needs
 
 link-requires : tie.Need-link-requires
-link-requires c κs = let s = c .before .before .before in links-ready (s .args .list .now) (s .args .card .now) (s .pre) _ (lit≤ tt)
+link-requires c κs = let s = c .before .before .before in links-ready (s .args .list .now) (s .args .card .now) (s .pre) _ (lit≤ tt) (clear-reads (rowsMost * linkCount))
 
-slice-aggregate-work-all : tie.Need-slice-aggregate-work-all
-slice-aggregate-work-all c = search needs
+slice-aggregate-work-rows : tie.Need-slice-aggregate-work-rows
+slice-aggregate-work-rows c = search needs
 
-slice-aggregate-work-all-2 : tie.Need-slice-aggregate-work-all-2
-slice-aggregate-work-all-2 c = search needs
+slice-aggregate-work-rows-2 : tie.Need-slice-aggregate-work-rows-2
+slice-aggregate-work-rows-2 c = search needs
 
-slice-aggregate-work-all-3 : tie.Need-slice-aggregate-work-all-3
-slice-aggregate-work-all-3 c = search needs
+slice-aggregate-work-rows-3 : tie.Need-slice-aggregate-work-rows-3
+slice-aggregate-work-rows-3 c = search needs
 
-work-all-requires : tie.Need-work-all-requires
-work-all-requires c κs =
+work-rows-requires : tie.Need-work-rows-requires
+work-rows-requires c κs =
     let at = c .before .before .before .before in
     let s = start at in
-    own-ready (s .args .list .now) (s .args .card .now) (s .pre) _ _ _ (at .link .ensures) (lit≤ tt) (lit≤ tt) (clear-reads (rowsMost * askCount))
+    all-rows-ready _ _ _ (unworked s _ (lit≤ tt)) _ (at .link .ensures)
 
 enum-known-worked : tie.Need-enum-known-worked
 enum-known-worked c = search needs
@@ -47,7 +56,7 @@ enum-known-worked c = search needs
 returns : tie.Need-returns
 returns c =
     let all = c .before .before .before .before .before in
-    answered-refused _ _ (start (linked all) .pre) _ _ _ _ (lit≤ tt) (all .work-all .ensures) (c .before .worked .given .1)
+    answered-refused _ _ (start (linked all) .pre) _ _ _ _ (lit≤ tt) (all-worked _ _ _ (unworked (start (linked all)) _ (lit≤ tt)) _ _ _ (all .work-rows .ensures)) (c .before .worked .given .1)
 
 enum-told : tie.Need-enum-told
 enum-told c = search needs
@@ -63,7 +72,7 @@ copy-front-requires c κs =
     let told = c .before .before in
     let all = told .before .before .before .before in
     let s = start (linked all) in
-    let k : length (all .work-all .last .1 .1 .1 .0) ≡ cardMost = all .work-all .kept .1 .1 .1 .0 in
+    let k : length (all .work-rows .last .1 .1 .1 .1 .0) ≡ cardMost = all .work-rows .kept .1 .1 .1 .1 .0 in
     (omega (arith, s .pre .card-room), omega (arith, s .pre .rows-to))
 
 same-length : tie.Need-same-length
@@ -74,7 +83,7 @@ returns-2 c =
     let copied = c .before .before in
     let told = copied .before .before .before in
     let all = told .before .before .before .before in
-    answered-done _ _ (start (linked all) .pre) _ _ _ _ (lit≤ tt) (all .work-all .ensures) (told .enum-told .given .1) (copied .copy-front .ensures)
+    answered-done _ _ (start (linked all) .pre) _ _ _ _ (lit≤ tt) (all-worked _ _ _ (unworked (start (linked all)) _ (lit≤ tt)) _ _ _ (all .work-rows .ensures)) (told .enum-told .given .1) (copied .copy-front .ensures)
 
 pub work-tested-spec : {M : Type 1} → statement M
 work-tested-spec =
@@ -82,10 +91,10 @@ work-tested-spec =
     (tie.spec
     slice-aggregate-link
     link-requires
-    slice-aggregate-work-all
-    slice-aggregate-work-all-2
-    slice-aggregate-work-all-3
-    work-all-requires
+    slice-aggregate-work-rows
+    slice-aggregate-work-rows-2
+    slice-aggregate-work-rows-3
+    work-rows-requires
     enum-known-worked
     returns
     enum-told

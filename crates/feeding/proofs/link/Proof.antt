@@ -9,26 +9,17 @@ use Rattle.feeding.proofs.link.Statement.{statement}
 use Rattle.feeding.proofs.link.Tie as tie
 
 abbrev Inv-loop : tie.InvT-loop
-Inv-loop list links₀ n k₀ links k = (length links ≡ length links₀) × Linking list links k
+Inv-loop list links₀ k₀ links k = (length links ≡ length links₀) × Linking list links k
 
 abbrev μ-loop : tie.MeasureT-loop
-μ-loop list links₀ n k₀ links k = k
+μ-loop list links₀ k₀ links k = k
 
--- from the loop to where no row is linked, and from there to the entry
-abbrev unlinked : tie.At-loop Inv-loop μ-loop → tie.After-unlink Inv-loop μ-loop
-unlinked c = c .before .before .before
-
-abbrev start : tie.After-unlink Inv-loop μ-loop → tie.Start Inv-loop μ-loop
-start c = c .before .before .before .before
-
-unlink-requires : tie.Need-unlink-requires Inv-loop μ-loop
-unlink-requires c κs = c .before .before .before .pre .links-room
+-- from the loop to the entry
+abbrev start : tie.At-loop Inv-loop μ-loop → tie.Start Inv-loop μ-loop
+start c = c .before .before .before
 
 loop-holds : tie.Need-loop-holds Inv-loop μ-loop
-loop-holds c =
-    let none = c .before .before in
-    let room = start none .pre .links-room in
-    (refl, linking-none _ _ (omega (arith, none .unlink .kept .0)) (none .unlink .ensures))
+loop-holds c = (refl, linking-none _ _ (c .before .before .pre))
 
 sub-k : tie.Need-sub-k Inv-loop μ-loop
 sub-k c = search needs
@@ -36,7 +27,7 @@ sub-k c = search needs
 link-row-requires : tie.Need-link-row-requires Inv-loop μ-loop
 link-row-requires c κs =
     let turn = c .before in
-    linking-ready _ _ _ (start (unlinked (turn .before)) .pre .feeders) (turn .before .loop .inv .1) (turn .loop-test .taken)
+    linking-ready _ _ _ _ (start (turn .before) .pre) (turn .before .loop .inv .1) (turn .loop-test .taken)
 
 loop-less : tie.Need-loop-less Inv-loop μ-loop
 loop-less c = omega arith
@@ -48,7 +39,7 @@ loop-again c =
     (done .link-row .kept .1 .0 ∙ turn .before .loop .inv .0, done .link-row .ensures)
 
 same-length : tie.Need-same-length Inv-loop μ-loop
-same-length c = c .before .loop .inv .0 ∙ unlinked (c .before) .unlink .kept .0
+same-length c = c .before .loop .inv .0
 
 returns : tie.Need-returns Inv-loop μ-loop
 returns c = let k : c .before .loop .k ≡ 0 = omega arith in linking-all _ _ _ (c .before .loop .inv .1) k
@@ -59,7 +50,6 @@ link-spec =
     (tie.spec
     Inv-loop
     μ-loop
-    unlink-requires
     loop-holds
     sub-k
     link-row-requires

@@ -1,6 +1,7 @@
 -- `feeding::link_row` meets its contract: a row that the source feeds changes nothing, and any other goes before what its feeder fed so far.
+use native.Mathlib.Omega.{arith}
 use mathlib.Core.Path.{sym, _∙_}
-use Rattle.feeding.proofs.LinkLaws.{linking-source, linked-row}
+use Rattle.feeding.proofs.LinkLaws.{linking-source, linked-row, feeder-place, number-byte}
 use borrow.Author.Needs.{needs}
 use Rattle.feeding.proofs.link_row.Statement.{statement}
 use Rattle.feeding.proofs.link_row.Tie as tie
@@ -19,13 +20,28 @@ sub-at : tie.Need-sub-at
 sub-at c = search needs
 
 link-at-requires : tie.Need-link-at-requires
-link-at-requires c κs = search needs
+link-at-requires c κs =
+    let found = c .before in
+    feeder-place _ _ _ (entry (found .before) .pre) _ (found .before .field-at .ensures) (found .if1 .left)
 
 put-link-requires : tie.Need-put-link-requires
 put-link-requires c κs = search needs
 
+add-put-link : tie.Need-add-put-link
+add-put-link c = search needs
+
+cast-put-link : tie.Need-cast-put-link
+cast-put-link c =
+    let found = c .before .before .before .before .before .before .before in
+    let fits = number-byte _ _ _ (entry (found .before) .pre) _ (found .before .field-at .ensures) (found .if1 .left) in
+    omega arith
+
 put-link-requires-2 : tie.Need-put-link-requires-2
-put-link-requires-2 c κs = search needs
+put-link-requires-2 c κs =
+    let kept = c .before .before .before in
+    let found = kept .before .before .before .before in
+    let place = feeder-place _ _ _ (entry (found .before) .pre) _ (found .before .field-at .ensures) (found .if1 .left) in
+    omega (arith, kept .put-link .kept .0)
 
 same-length : tie.Need-same-length
 same-length c = search needs
@@ -48,6 +64,8 @@ link-row-spec =
     sub-at
     link-at-requires
     put-link-requires
+    add-put-link
+    cast-put-link
     put-link-requires-2
     same-length
     returns-2)

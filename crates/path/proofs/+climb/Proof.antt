@@ -6,7 +6,7 @@ use Prim.Native.Nat.{ℕ, _-_, _<_}
 use borrow.Fn.Kinds.{In}
 use borrow.Fn.PlainCycle.{Measures, is, falls, and}
 use Rattle.layout.specs.List.{rows}
-use Rattle.path.proofs.ClimbLaws.{climb-works, climb-refused, climb-passes}
+use Rattle.path.proofs.ClimbLaws.{climb-works, climb-ready, climb-refused, climb-passes}
 use Rattle.path.proofs.ClimbUpLaws.{climb-stops, climb-source, climb-on, climb-less, climb-back, climb-done, climb-counts}
 use Rattle.path.proofs.climb.Reads as climb
 use Rattle.path.proofs.climb.Kinds as climb-kinds
@@ -15,7 +15,7 @@ use Rattle.layout.proofs.card_row_at.Reads as card-row-at-reads
 use Rattle.layout.proofs.field_at.Reads as field-at-reads
 use Rattle.layout.proofs.put_card_row.Reads as put-card-row-reads
 use Rattle.path.proofs.stays.Reads as stays-reads
-use Rattle.rowwise.proofs.work_row.Reads as work-row-reads
+use Rattle.rowwise.proofs.work_rows.Reads as work-rows-reads
 use Rattle.path.proofs.+climb.{statement}
 use Rattle.path.proofs.+climb.Tie.{close}
 
@@ -32,8 +32,8 @@ abbrev callees : ℕ → climb-lts.Claims
 callees t = (
   card-row-at-reads.Asked,
   card-row-at-reads.Learnt,
-  work-row-reads.Asked,
-  work-row-reads.Learnt,
+  work-rows-reads.Asked,
+  work-rows-reads.Learnt,
   stays-reads.Asked,
   stays-reads.Learnt,
   field-at-reads.Asked,
@@ -49,7 +49,7 @@ module _ {t : ℕ} (k : climb-lts.After-stays (callees t) (climb-at t) climb.Pos
   abbrev told : climb-lts.After-enum-told (callees t) (climb-at t) climb.Post
   told = k .before .before
 
-  abbrev worked : climb-lts.After-work-row (callees t) (climb-at t) climb.Post
+  abbrev worked : climb-lts.After-work-rows (callees t) (climb-at t) climb.Post
   worked = told .before .before .before .before .before .before
 
   abbrev noted : climb-lts.After-card-row-at (callees t) (climb-at t) climb.Post
@@ -61,11 +61,14 @@ module _ {t : ℕ} (k : climb-lts.After-stays (callees t) (climb-at t) climb.Pos
 climb-card-row-at-requires : (t : ℕ) → climb-lts.Need-card-row-at-requires (callees t) (climb-at t) climb.Post
 climb-card-row-at-requires t c κs = climb-works _ _ _ _ _ (c .before .before .before .before .before .pre .1) .in-card
 
-climb-work-row-requires : (t : ℕ) → climb-lts.Need-work-row-requires (callees t) (climb-at t) climb.Post
-climb-work-row-requires t c κs =
+climb-add-work-rows : (t : ℕ) → climb-lts.Need-add-work-rows (callees t) (climb-at t) climb.Post
+climb-add-work-rows t c = search needs
+
+climb-work-rows-requires : (t : ℕ) → climb-lts.Need-work-rows-requires (callees t) (climb-at t) climb.Post
+climb-work-rows-requires t c κs =
     let noted = c .before .before in
     let start = noted .before .before .before .before .before .before in
-    climb-works _ _ _ _ _ (start .pre .1)
+    climb-ready _ _ _ _ _ (start .pre .1)
 
 climb-enum-known-own : (t : ℕ) → climb-lts.Need-enum-known-own (callees t) (climb-at t) climb.Post
 climb-enum-known-own t c = search needs
@@ -82,7 +85,7 @@ climb-returns t c =
     let worked = own .before .before .before .before .before .before in
     let noted = worked .before .before .before in
     let start = noted .before .before .before .before .before .before in
-    climb-refused _ _ _ _ _ (start .pre .1) _ _ _ (worked .work-row .ensures) (start .args .feeding) _ (own .own .given .1)
+    climb-refused _ _ _ _ _ (start .pre .1) _ _ _ (worked .work-rows .ensures) (start .args .feeding) _ (own .own .given .1)
 
 climb-enum-told : (t : ℕ) → climb-lts.Need-enum-told (callees t) (climb-at t) climb.Post
 climb-enum-told t c = search needs
@@ -93,7 +96,7 @@ climb-stays-requires t c κs =
     let worked = told .before .before .before .before .before .before in
     let noted = worked .before .before .before in
     let start = noted .before .before .before .before .before .before in
-    let k = climb-works _ _ _ _ _ (start .pre .1) in omega (arith, k .in-card, worked .work-row .kept .1 .1 .1 .0)
+    let k = climb-works _ _ _ _ _ (start .pre .1) in omega (arith, k .in-card, worked .work-rows .kept .1 .1 .1 .1 .0)
 
 climb-same-length-3 : (t : ℕ) → climb-lts.Need-same-length-3 (callees t) (climb-at t) climb.Post
 climb-same-length-3 t c = search needs
@@ -104,7 +107,7 @@ climb-same-length-4 t c = search needs
 climb-returns-2 : (t : ℕ) → climb-lts.Need-returns-2 (callees t) (climb-at t) climb.Post
 climb-returns-2 t c =
     let k = c .before in
-    let p = climb-passes _ _ _ _ _ (start k .pre .1) _ _ _ (worked k .work-row .ensures) (told k .enum-told .given .1) in
+    let p = climb-passes _ _ _ _ _ (start k .pre .1) _ _ _ (worked k .work-rows .ensures) (told k .enum-told .given .1) in
     climb-stops p (start k .args .feeding) _ (noted k .card-row-at .ensures) _ (k .stays .ensures) (c .if1 .taken)
 
 climb-field-at-requires : (t : ℕ) → climb-lts.Need-field-at-requires (callees t) (climb-at t) climb.Post
@@ -121,7 +124,7 @@ climb-returns-3 : (t : ℕ) → climb-lts.Need-returns-3 (callees t) (climb-at t
 climb-returns-3 t c =
     let read = c .before in
     let k = read .before .before in
-    let p = climb-passes _ _ _ _ _ (start k .pre .1) _ _ _ (worked k .work-row .ensures) (told k .enum-told .given .1) in
+    let p = climb-passes _ _ _ _ _ (start k .pre .1) _ _ _ (worked k .work-rows .ensures) (told k .enum-told .given .1) in
     climb-source p (start k .args .feeding) _ (noted k .card-row-at .ensures) _ (k .stays .ensures) (read .before .if1 .left) _
     (read .field-at .ensures) (c .if2 .taken)
 
@@ -133,7 +136,7 @@ climb-climb-requires t c κs =
     let fed = c .before .before in
     let read = fed .before in
     let k = read .before .before in
-    let p = climb-passes _ _ _ _ _ (start k .pre .1) _ _ _ (worked k .work-row .ensures) (told k .enum-told .given .1) in (
+    let p = climb-passes _ _ _ _ _ (start k .pre .1) _ _ _ (worked k .work-rows .ensures) (told k .enum-told .given .1) in (
       subst (λ (n : ℕ). rows (start k .args .list .now) - (read .field-at .result - 1) < n) (start k .pre .0)
           (climb-less p (start k .args .feeding) _ (noted k .card-row-at .ensures) _ (k .stays .ensures) (read .before .if1 .left) _
           (read .field-at .ensures) (fed .if2 .left)),
@@ -149,7 +152,7 @@ climb-put-card-row-requires t c κs =
     let a = c .before .before in
     let above = a .before .before .before .before .before .before in
     let k = above .before .before .before .before .before .before in
-    let w = climb-works _ _ _ _ _ (start k .pre .1) in omega (arith, w .in-card, worked k .work-row .kept .1 .1 .1 .0, above .climb .kept .1 .1 .1 .0)
+    let w = climb-works _ _ _ _ _ (start k .pre .1) in omega (arith, w .in-card, worked k .work-rows .kept .1 .1 .1 .1 .0, above .climb .kept .1 .1 .1 .0)
 
 climb-enum-known-n : (t : ℕ) → climb-lts.Need-enum-known-n (callees t) (climb-at t) climb.Post
 climb-enum-known-n t c = search needs
@@ -161,7 +164,7 @@ climb-add-t34 t c =
     let fed = above .before .before .before in
     let read = fed .before in
     let k = read .before .before in
-    let p = climb-passes _ _ _ _ _ (start k .pre .1) _ _ _ (worked k .work-row .ensures) (told k .enum-told .given .1) in
+    let p = climb-passes _ _ _ _ _ (start k .pre .1) _ _ _ (worked k .work-rows .ensures) (told k .enum-told .given .1) in
     let few = climb-counts p (start k .args .feeding) _ (noted k .card-row-at .ensures) _ (k .stays .ensures) (read .before .if1 .left) _
     (read .field-at .ensures) (fed .if2 .left) _ _ _
     (above .climb .ensures) (n .n .given .1) in omega (arith, few)
@@ -180,7 +183,7 @@ climb-returns-4 t c =
     let fed = above .before .before .before in
     let read = fed .before in
     let k = read .before .before in
-    let p = climb-passes _ _ _ _ _ (start k .pre .1) _ _ _ (worked k .work-row .ensures) (told k .enum-told .given .1) in
+    let p = climb-passes _ _ _ _ _ (start k .pre .1) _ _ _ (worked k .work-rows .ensures) (told k .enum-told .given .1) in
     climb-back p (start k .args .feeding) _ (noted k .card-row-at .ensures) _ (k .stays .ensures) (read .before .if1 .left) _
     (read .field-at .ensures) (fed .if2 .left) _ _ _ _
     (above .climb .ensures) (a .a .given .1) (put .put-card-row .ensures)
@@ -198,7 +201,7 @@ climb-returns-5 t c =
     let fed = above .before .before .before in
     let read = fed .before in
     let k = read .before .before in
-    let p = climb-passes _ _ _ _ _ (start k .pre .1) _ _ _ (worked k .work-row .ensures) (told k .enum-told .given .1) in
+    let p = climb-passes _ _ _ _ _ (start k .pre .1) _ _ _ (worked k .work-rows .ensures) (told k .enum-told .given .1) in
     climb-done p (start k .args .feeding) _ (noted k .card-row-at .ensures) _ (k .stays .ensures) (read .before .if1 .left) _
     (read .field-at .ensures) (fed .if2 .left) _ _ _
     (above .climb .ensures) (n .n .given .1)
@@ -208,7 +211,8 @@ pub +climb-spec : {M : Type 1} → statement M
     (climb-at t)
     climb.Post
     (climb-card-row-at-requires t)
-    (climb-work-row-requires t)
+    (climb-add-work-rows t)
+    (climb-work-rows-requires t)
     (climb-enum-known-own t)
     (climb-same-length t)
     (climb-same-length-2 t)

@@ -4,6 +4,7 @@ use borrow.Author.Needs.{needs}
 use Prim.Native.Nat.{_*_}
 use Rattle.layout.specs.Counts.{rowsMost}
 use Rattle.rows.proofs.InRangeLaws.{passed-feeds}
+use Rattle.feeding.specs.Fed.{linkCount}
 use Rattle.rowwise.specs.Sums.{askCount}
 use Rattle.rowwise.proofs.LinkLaws.{link-ready}
 use Rattle.rowwise.proofs.StartLaws.{clear-reads}
@@ -28,7 +29,7 @@ slice-aggregate-link c = search needs
 link-requires : tie.Need-link-requires
 link-requires c κs =
     let a = start c .pre in
-    link-ready _ _ (passed-feeds _ (a .rows-tested)) (a .rework .rows-to) (omega arith)
+    link-ready _ _ (passed-feeds _ (a .rows-tested)) (a .rework .rows-to) (omega arith) (clear-reads (rowsMost * linkCount))
 
 slice-aggregate-push-rest : tie.Need-slice-aggregate-push-rest
 slice-aggregate-push-rest c = search needs

@@ -1,17 +1,17 @@
--- `calculate::work_all` meets its contract: the rows below i are done, and what is left of the calculation is that of the rows from i on.
+-- `rowwise::work_rows` meets its contract: the rows below i are worked out and none of them was refused.
 use native.Mathlib.Omega.{arith}
 use borrow.Author.Needs.{needs}
 use mathlib.Core.Path.{_∙_}
 use Prim.Native.Nat.{_-_}
-use Rattle.calculate.proofs.AllLaws.{Passing, all-start, all-ready, all-refused, all-next, all-end}
-use Rattle.calculate.proofs.work_all.Statement.{statement}
-use Rattle.calculate.proofs.work_all.Tie as tie
+use Rattle.rowwise.proofs.StepsLaws.{Stepping, stepping-start, stepping-ready, stepping-refused, stepping-next, stepping-end}
+use Rattle.rowwise.proofs.work_rows.Statement.{statement}
+use Rattle.rowwise.proofs.work_rows.Tie as tie
 
 abbrev Inv-loop : tie.InvT-loop
-Inv-loop list links n card₀ sums₀ i₀ card sums i = Passing list card₀ sums₀ card sums i
+Inv-loop list links from to card₀ sums₀ i₀ card sums i = Stepping list from to card₀ sums₀ card sums i
 
 abbrev μ-loop : tie.MeasureT-loop
-μ-loop list links n card₀ sums₀ i₀ card sums i = n - i
+μ-loop list links from to card₀ sums₀ i₀ card sums i = to - i
 
 -- from the loop back to the start, and from where a row was worked out back to the loop's test
 abbrev start : tie.At-loop Inv-loop μ-loop → tie.Start Inv-loop μ-loop
@@ -24,13 +24,12 @@ abbrev worked : tie.After-slice-known4 Inv-loop μ-loop → tie.After-work-row I
 worked c = c .before .before .before .before
 
 loop-holds : tie.Need-loop-holds Inv-loop μ-loop
-loop-holds c = all-start _ _ _ _ _ (c .before .before .before .before .pre)
+loop-holds c = stepping-start _ _ _ _ _
 
 work-row-requires : tie.Need-work-row-requires Inv-loop μ-loop
 work-row-requires c κs =
     let test = c .before .before in
-    let a = start (test .before) .pre in
-    all-ready _ _ _ _ _ _ (test .before .loop .inv) (omega (arith, test .loop-test .taken, a .all-rows)) _ (a .linked)
+    stepping-ready _ _ _ _ _ _ _ _ (test .before .loop .inv) _ (start (test .before) .pre) (test .loop-test .taken)
 
 enum-known-tested : tie.Need-enum-known-tested Inv-loop μ-loop
 enum-known-tested c = search needs
@@ -50,8 +49,7 @@ returns c =
     let tested = c .before in
     let row = worked (tested .before .before) in
     let test = looped row in
-    all-refused _ _ _ _ _ _ (test .before .loop .inv) (omega (arith, test .loop-test .taken, start (test .before) .pre .all-rows)) _ _ _ _
-    (tested .tested .given .1) (row .work-row .ensures)
+    stepping-refused _ _ _ _ _ _ _ _ (test .before .loop .inv) _ _ _ _ (test .loop-test .taken) (tested .tested .given .1) (row .work-row .ensures)
 
 enum-told : tie.Need-enum-told Inv-loop μ-loop
 enum-told c = search needs
@@ -66,8 +64,8 @@ loop-again : tie.Need-loop-again Inv-loop μ-loop
 loop-again c =
     let row = worked (c .before .before) in
     let test = looped row in
-    all-next _ _ _ _ _ _ (test .before .loop .inv) (omega (arith, test .loop-test .taken, start (test .before) .pre .all-rows)) _ _ _
-    (c .enum-told .given .1) (row .work-row .ensures)
+    stepping-next _ _ _ _ _ _ _ _ (test .before .loop .inv) _ _ _ (test .loop-test .taken) (row .work-row .kept .1 .1 .1 .0)
+    (row .work-row .kept .1 .1 .1 .1 .0) (c .enum-told .given .1) (row .work-row .ensures)
 
 same-length-3 : tie.Need-same-length-3 Inv-loop μ-loop
 same-length-3 c = c .before .loop .inv .card-length
@@ -76,10 +74,10 @@ same-length-4 : tie.Need-same-length-4 Inv-loop μ-loop
 same-length-4 c = c .before .loop .inv .sums-length
 
 returns-2 : tie.Need-returns-2 Inv-loop μ-loop
-returns-2 c = all-end _ _ _ _ _ _ (c .before .loop .inv) (omega (arith, c .loop-test .left, start (c .before) .pre .all-rows))
+returns-2 c = stepping-end _ _ _ _ _ _ _ _ (c .before .loop .inv) (c .loop-test .left)
 
-pub work-all-spec : {M : Type 1} → statement M
-work-all-spec =
+pub work-rows-spec : {M : Type 1} → statement M
+work-rows-spec =
     tie.close
     (tie.spec
     Inv-loop
