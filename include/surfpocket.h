@@ -11,12 +11,12 @@
      refused may write list and card and put both back.
    - The caller was compiled with the header of the library that it is linked with: see SURFPOCKET_VERSION.
    - There is stack enough. Measured on x86-64 with 256 rows, and rounded up:
-         surfpocket_whole      28 KiB
-         surfpocket_replace   104 KiB for the first row of a chain; 320 bytes less for each row that is not worked out
+         surfpocket_whole      24 KiB
+         surfpocket_replace   100 KiB for the first row of a chain; 320 bytes less for each row that is not worked out
          surfpocket_study       1 KiB
          surfpocket_differential 1 KiB
          surfpocket_time        1 KiB
-         surfpocket_card      124 KiB
+         surfpocket_card      120 KiB
      A thread made for such a call needs what the thread itself takes besides.
 
    The functions keep nothing between calls, take no lock and use no heap, so threads may call them at once. Every input that meets
