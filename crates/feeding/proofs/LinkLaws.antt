@@ -40,7 +40,10 @@ linking-none l links a =
     record {
       within = omega arith;
       links-room = a .links-room;
-      firsts = λ i b. a .links-clear (i * linkCount + atFirst) ∙ sym (link-to-none (rows l) _ (omega (arith, fedFrom-behind l i (rows l) (omega arith))));
+      firsts =
+          λ i b.
+          a .links-clear (i * linkCount + atFirst) ∙
+          sym (link-to-none (rows l) (fedFrom l i (rows l)) (omega (arith, fedFrom-behind l i (rows l) (omega arith))));
       nexts = λ i j a b. absurd (omega arith);
     }
 

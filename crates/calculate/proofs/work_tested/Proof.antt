@@ -33,7 +33,9 @@ slice-aggregate-link : tie.Need-slice-aggregate-link
 slice-aggregate-link c = search needs
 
 link-requires : tie.Need-link-requires
-link-requires c κs = let s = c .before .before .before in links-ready (s .args .list .now) (s .args .card .now) (s .pre) _ (lit≤ tt) (clear-reads (rowsMost * linkCount))
+link-requires c κs =
+    let s = c .before .before .before in
+    links-ready (s .args .list .now) (s .args .card .now) (s .pre) _ (lit≤ tt) (clear-reads (rowsMost * linkCount))
 
 slice-aggregate-work-rows : tie.Need-slice-aggregate-work-rows
 slice-aggregate-work-rows c = search needs
@@ -56,7 +58,9 @@ enum-known-worked c = search needs
 returns : tie.Need-returns
 returns c =
     let all = c .before .before .before .before .before in
-    answered-refused _ _ (start (linked all) .pre) _ _ _ _ (lit≤ tt) (all-worked _ _ _ (unworked (start (linked all)) _ (lit≤ tt)) _ _ _ (all .work-rows .ensures)) (c .before .worked .given .1)
+    let s = start (linked all) in
+    let e = all-worked _ _ _ (unworked s _ (lit≤ tt)) _ _ _ (all .work-rows .ensures) in
+    answered-refused _ _ (s .pre) _ _ _ _ (lit≤ tt) e (c .before .worked .given .1)
 
 enum-told : tie.Need-enum-told
 enum-told c = search needs
@@ -83,7 +87,9 @@ returns-2 c =
     let copied = c .before .before in
     let told = copied .before .before .before in
     let all = told .before .before .before .before in
-    answered-done _ _ (start (linked all) .pre) _ _ _ _ (lit≤ tt) (all-worked _ _ _ (unworked (start (linked all)) _ (lit≤ tt)) _ _ _ (all .work-rows .ensures)) (told .enum-told .given .1) (copied .copy-front .ensures)
+    let s = start (linked all) in
+    let e = all-worked _ _ _ (unworked s _ (lit≤ tt)) _ _ _ (all .work-rows .ensures) in
+    answered-done _ _ (s .pre) _ _ _ _ (lit≤ tt) e (told .enum-told .given .1) (copied .copy-front .ensures)
 
 pub work-tested-spec : {M : Type 1} → statement M
 work-tested-spec =
