@@ -1,6 +1,6 @@
 // The rows that each row feeds, in ascending order [01 §2]. They are found once for the whole list, from the last row down, and kept
 // as two row numbers a row: the first row that it feeds, and the next row that is fed as it is; 0 where there is none. The last of 256
-// rows is fed by none, so that a byte holds each.
+// rows is fed by no row, so that a byte holds each number.
 use layout::AT_FEEDER;
 use layout::FIELDS;
 use layout::ROWS;
