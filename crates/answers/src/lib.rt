@@ -1,11 +1,13 @@
 // The answers of section 4, with those of the requests that have landed, and their numbers.
+#![tactic(auto)]
+
 ghost use Rattle.std.specs.Prelude.{◌≡◌};
 ghost use Rattle.answers.specs.declared.Answer.TheVariants.{Unsettled};
 ghost use Rattle.answers.specs.Answer.{given_by};
 
 // Why no available pickup meets P1 to P4 [02 §2]: none meets P1 and P2; the least that does fails P3; or it fails P4 for the fed
 // row of this number.
-#[derive(Drop)]
+#[derive(Clone, Copy)]
 pub enum Cause {
     Range,
     OwnZone,
@@ -14,7 +16,7 @@ pub enum Cause {
 
 // Why a row can't be settled: no pickup fits it; the M of the row of this number is at most 1.000 [02 §3]; or no delay or multiplier
 // fits it.
-#[derive(Drop)]
+#[derive(Clone, Copy)]
 pub enum Reason {
     Pickup(Cause),
     Curve(u64),
@@ -22,7 +24,7 @@ pub enum Reason {
 }
 
 // The answers, each with its place: lines, rows, fields and inputs from 1.
-#[derive(Drop)]
+#[derive(Clone, Copy)]
 pub enum Answer {
     Done,
     Text(u64),
@@ -39,7 +41,7 @@ pub enum Answer {
 }
 
 // What a test finds.
-#[derive(Drop)]
+#[derive(Clone, Copy)]
 pub enum Tested {
     Passed,
     Refused(Answer),

@@ -1,4 +1,6 @@
 // The whole calculation of a lent list, on a lent card [01 §4].
+#![tactic(auto)]
+
 ghost use Rattle.std.specs.Prelude.{◌≡◌, ◌++◌, ◌≤◌, length, take, drop};
 ghost use Rattle.calculate.specs.Ready.{WorkTested, Answered, Gave};
 ghost use Rattle.calculate.specs.Whole.{ending, calculation, worked_as, whole};

@@ -1,5 +1,7 @@
 // The program `card`: reads the text of a list on standard input and prints its settings card, or the refusal [01 §6].
 // A list that could not be read, or a card that could not be written whole, is said on standard error.
+#![tactic(auto)]
+
 ghost use Rattle.std.specs.Prelude.{◌≤◌, length, take};
 ghost use Rattle.print.specs.Card.{Printed};
 ghost use Rattle.sheet.specs.Sheet.{sheet_most, sheet_of};

@@ -1,4 +1,6 @@
 // The replacement of one row of a lent list, on a lent card [01 §4], and how far it went [02 §8].
+#![tactic(auto)]
+
 mod edit;
 
 ghost use Rattle.path.specs.Ready.{ReworkReady, Reworked};
@@ -13,7 +15,7 @@ use path::{HowFar, test_card, work_path};
 use rows::{test_rows, test_size};
 
 // What a replacement gives back: section 4's numbers, and how many rows were worked out, 0 on a refusal.
-#[derive(Drop)]
+#[derive(Clone, Copy)]
 pub struct Replacement {
     pub numbers: [u64; NUMBERS],
     pub rows: u64,

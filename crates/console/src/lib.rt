@@ -1,11 +1,13 @@
 // What the programs do with their streams: standard input read to its end or until the buffer is full, standard output written whole,
 // and a message on standard error. The kit has no exit status.
+#![tactic(auto)]
+
 ghost use Rattle.console.specs.Input.{Held};
 
 use libc::{STDERR_FILENO, STDIN_FILENO, STDOUT_FILENO};
 
 // How reading ended: with so many bytes at the start of the buffer, or at a read that failed.
-#[derive(Drop)]
+#[derive(Clone, Copy)]
 pub enum Input {
     Read(usize),
     Failed,

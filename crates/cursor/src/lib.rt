@@ -1,10 +1,12 @@
 // A cursor on a text, and its way past numbers, names, commas and line ends [01 §6].
+#![tactic(auto)]
+
 mod alphabet;
 mod cell;
 mod pieces;
 
 // The bytes that a run is made of.
-#[derive(Drop)]
+#[derive(Clone, Copy)]
 pub enum Class {
     Digit,
     Bare,
@@ -12,21 +14,21 @@ pub enum Class {
 }
 
 // A place in the text, and the line that it stands in.
-#[derive(Drop)]
+#[derive(Clone, Copy)]
 pub struct Cursor {
     pub at: usize,
     pub line: u64,
 }
 
 // What a column holds.
-#[derive(Drop)]
+#[derive(Clone, Copy)]
 pub enum Column {
     Numbers,
     Names,
 }
 
 // A cell with the cursor past it: a number's value, or a name's start and length.
-#[derive(Drop)]
+#[derive(Clone, Copy)]
 pub enum CellRead {
     NumberCell(u64, Cursor),
     NameCell(usize, usize, Cursor),
@@ -34,7 +36,7 @@ pub enum CellRead {
 }
 
 // The cursor past a name.
-#[derive(Drop)]
+#[derive(Clone, Copy)]
 pub(crate) enum NameRead {
     Name(Cursor),
     NoName,

@@ -1,4 +1,6 @@
 // The law of a row's time [02 §3]: a definite delay, or curve B or C of IEC 60255-151. M and multipliers are in thousandths, times in ms.
+#![tactic(auto)]
+
 ghost use Rattle.std.specs.Prelude.{◌≡◌, false, ℕ, ◌≤◌, leb};
 ghost use Rattle.curve.specs.Curve.{multiple, stalls, setting_to, setting_from, numerator, denominator, time_of};
 

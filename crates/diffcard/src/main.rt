@@ -1,5 +1,7 @@
 // The program `diffcard`: reads lines of inputs on standard input and prints for each its differential card and verdict, or its
 // refusal [02 §11]. A text that could not be read, or an output that could not be written whole, is said on standard error.
+#![tactic(auto)]
+
 ghost use Rattle.std.specs.Prelude.{◌≤◌, length, take};
 ghost use Rattle.print.specs.Card.{Printed};
 ghost use Rattle.diffsheet.specs.Sheet.{diff_most, diff_of};

@@ -1,5 +1,7 @@
 // The differential card of a transformer, and the verdict on a measured pair [02 §11], [004]. Currents are whole hundredths of the
 // rated current, and the slope whole hundredths.
+#![tactic(auto)]
+
 ghost use Rattle.std.specs.Prelude.{◌≡◌, ◌≤◌};
 ghost use Rattle.differential.specs.Given.{refused_with, done_with, differential_of};
 ghost use Rattle.differential.specs.Gets.{InRange};
@@ -17,7 +19,7 @@ pub const INPUTS: usize = 8;
 
 // The inputs in the order of their places: three settings and the greatest outside fault current; then what was measured, the
 // currents of both sides, the differential and the restraint.
-#[derive(Drop)]
+#[derive(Clone, Copy)]
 pub struct Inputs {
     pub start: u64,
     pub blocking: u64,
@@ -29,7 +31,7 @@ pub struct Inputs {
     pub restraint: u64,
 }
 
-#[derive(Drop)]
+#[derive(Clone, Copy)]
 pub enum Verdict {
     Trip,
     Hold,
@@ -37,7 +39,7 @@ pub enum Verdict {
 }
 
 // What is given back: DONE with the card and the verdict's number, or a refusal with its place and all six 0.
-#[derive(Drop)]
+#[derive(Clone, Copy)]
 pub struct Given {
     pub number: u64,
     pub place: u64,

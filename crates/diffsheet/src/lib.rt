@@ -1,4 +1,6 @@
 // From a text of lines of inputs to a printed line for each, or a refusal of the text [02 §11, 01 §6].
+#![tactic(auto)]
+
 ghost use Rattle.std.specs.Prelude.{◌++◌, ◌≡◌, ◌+◌, ◌*◌, ◌≤◌, length};
 ghost use Rattle.differential.specs.Inputs.{input_count};
 ghost use Rattle.print.specs.Card.{Printed};

@@ -1,6 +1,8 @@
 // The rows that each row feeds, in ascending order [01 §2]. They are found once for the whole list, from the last row down, and kept
 // as two row numbers a row: the first row that it feeds, and the next row that is fed as it is; 0 where there is none. The last of 256
 // rows is fed by no row, so that a byte holds each number.
+#![tactic(auto)]
+
 ghost use Rattle.std.specs.Prelude.{◌≡◌, true, ℕ, ◌+◌, ◌*◌, ◌<◌, length, set};
 ghost use Rattle.layout.specs.List.{rows};
 ghost use Rattle.feeding.specs.Fed.{feeds, fed_from, link_count, link_at, link_to, Linked, LinkReady};

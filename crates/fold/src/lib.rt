@@ -1,7 +1,8 @@
 // The first number that passes a test, and sums, maxima and "for every" over the numbers below n: definitions and laws.
+#![tactic(auto)]
 
 // What a search gives.
-#[derive(Drop)]
+#[derive(Clone, Copy)]
 pub enum Found {
     At(u64),
     Nothing,

@@ -1,4 +1,6 @@
 // Leaf arithmetic: the least available value of a grid low, low + step, .. up to high.
+#![tactic(auto)]
+
 ghost use Rattle.std.specs.Prelude.{◌≡◌, max, leb};
 ghost use Rattle.grid.specs.Grid.{least_on};
 ghost use Rattle.grid.specs.Round.{ceil_div};

@@ -1,5 +1,7 @@
 // The layout of a list and of a card lent as numbers: counts, tables of bounds, rows [01 §2, §4].
 // Rows, fields and columns are counted from 0 here: index i is row number i + 1, index k is field number k + 1.
+#![tactic(auto)]
+
 ghost use Rattle.std.specs.Prelude.{◌≡◌, ◌+◌, ◌*◌, ◌<◌, ◌≤◌, length};
 ghost use Rattle.layout.specs.Card.{column, card_row_at, column_bounds_to, put_card_row, same_card_row};
 ghost use Rattle.layout.specs.Counts.{field_count, column_count};
@@ -115,7 +117,7 @@ pub fn in_bounds(table: &[u64], k: usize, x: u64) -> bool
 
 // What the conditions read of a row: fields 2 to 22, in the list's order [01 §2], [02 §1, §3]. Low, high and step are as
 // they are keyed: secondary mA where the row has a ratio, primary mA where not. Other currents are primary.
-#[derive(Drop)]
+#[derive(Clone, Copy)]
 pub struct Row {
     pub feeder: u64,
     pub kind: u64,
@@ -179,7 +181,7 @@ pub fn row_at(list: &[u64], i: usize) -> Row
 }
 
 // A card row's columns, in the card's order; the currents as they are keyed: secondary mA where the row has a ratio, primary mA where not.
-#[derive(Drop)]
+#[derive(Clone, Copy)]
 pub struct CardRow {
     pub pickup: Secondary,
     pub delay: u64,

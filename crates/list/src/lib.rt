@@ -1,4 +1,6 @@
 // Reading the text of a list [01 §6].
+#![tactic(auto)]
+
 ghost use Rattle.std.specs.Prelude.{◌≡◌};
 ghost use Rattle.list.specs.List.{ListTaken};
 

@@ -1,5 +1,7 @@
 // A row's path worked out again on a lent card: the tests of the card's numbers, and the climb from the row towards the source [01 §4],
 // up to the first feeding row that comes out as it was [02 §8].
+#![tactic(auto)]
+
 ghost use Rattle.std.specs.Prelude.{◌≡◌, not, ◌&&◌, ◌+◌, ◌*◌, ◌<◌, ◌≤◌, length};
 ghost use Rattle.layout.specs.Counts.{column_count};
 ghost use Rattle.fold.specs.First.{first};
@@ -23,7 +25,7 @@ use rowwise::{SUMS, push, work_rows};
 use sides::{PRIMARY_MOST, SECONDARY_MOST};
 
 // How far a working out went: so many rows, or refused.
-#[derive(Drop)]
+#[derive(Clone, Copy)]
 pub enum HowFar {
     Rows(u64),
     Refused(Answer),

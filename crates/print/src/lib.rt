@@ -1,4 +1,6 @@
 // Printing the card [01 §6], [02 §3] and a refusal.
+#![tactic(auto)]
+
 pub mod write;
 
 ghost use Rattle.std.specs.Prelude.{◌≡◌, ◌+◌, ◌*◌, ◌≤◌, length, drop};

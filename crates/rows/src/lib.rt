@@ -1,5 +1,7 @@
 // Section 2 of the scope: one row, its fields' bounds, and how rows feed each other.
 // Rows and fields are counted from 0 here: index i is row number i + 1, index k is field number k + 1.
+#![tactic(auto)]
+
 ghost use Rattle.std.specs.Prelude.{◌≡◌, ℕ, ◌+◌, ◌-◌, ◌*◌, ◌<◌, ◌≤◌, length};
 ghost use Rattle.layout.specs.Counts.{field_count};
 ghost use Rattle.layout.specs.Fields.{at_primary, bounds_to};

@@ -1,5 +1,7 @@
 // Rows worked out on a lent card, one after the other. What a row's fed rows ask of its pickup is kept in `sums`, three numbers a row, and each row that
 // is worked out adds its own for the row that feeds it. For its time the row goes through its fed rows once, by `links`.
+#![tactic(auto)]
+
 ghost use Rattle.std.specs.Prelude.{◌≡◌, ◌+◌, ◌-◌, ◌*◌, ◌<◌, ◌≤◌, length};
 ghost use Rattle.rowwise.specs.Ready.{PushReady, WorkReady, RowsReady, Stepped};
 ghost use Rattle.rowwise.specs.Sums.{ask_count, fed_at, put_fed, joined, pushed, step, steps};

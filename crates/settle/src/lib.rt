@@ -1,5 +1,7 @@
 // Section 3 of the scope: one row's least settings, in two stages [02 §3]. The pickup comes from its fields and what the rows that it
 // feeds ask of it, in three numbers; its delay or multiplier then from going through those rows (times).
+#![tactic(auto)]
+
 mod times;
 
 ghost use Rattle.std.specs.Prelude.{◌≡◌, ℕ, ◌-◌, ◌≤◌, ◌<◌, leb};
@@ -23,14 +25,14 @@ use sides::{Primary, Secondary, in_primary, least_keyed};
 use times::time_row;
 
 // The cutoff is fitted at a stated pickup or not fitted [01 §3].
-#[derive(Drop)]
+#[derive(Clone, Copy)]
 pub enum Cutoff {
     Fitted(Secondary),
     NotFitted,
 }
 
 // A row's outcome. The setting is its delay, or the multiplier of its curve.
-#[derive(Drop)]
+#[derive(Clone, Copy)]
 pub struct Outcome {
     pub pickup: Secondary,
     pub law: u64,
@@ -39,20 +41,20 @@ pub struct Outcome {
 }
 
 // A row's pickup, or why no available one fits.
-#[derive(Drop)]
+#[derive(Clone, Copy)]
 pub enum Picked {
     Fits(Secondary),
     Unfit(Cause),
 }
 
-#[derive(Drop)]
+#[derive(Clone, Copy)]
 pub enum Settled {
     Set(Outcome),
     Unset(Reason),
 }
 
 // A row's second stage: its setting; the number of the row whose M is at most 1.000; or neither, where no setting fits.
-#[derive(Drop)]
+#[derive(Clone, Copy)]
 pub enum Timed {
     Setting(u64),
     Stalled(u64),
@@ -60,14 +62,14 @@ pub enum Timed {
 }
 
 // A fed row's time at its own near end, or none where its M is at most 1.000.
-#[derive(Drop)]
+#[derive(Clone, Copy)]
 pub enum FedTime {
     Takes(u64),
     Slow,
 }
 
 // What one or all of the fed rows ask of a row's setting: it is from so much on; or the number of a row whose M is at most 1.000.
-#[derive(Drop)]
+#[derive(Clone, Copy)]
 pub enum Wanted {
     From(u64),
     Stuck(u64),
@@ -75,7 +77,7 @@ pub enum Wanted {
 
 // What the rows that a row feeds ask of its pickup: the sum of their loads, and over them the greatest excess of a pickup over its
 // own load and shortfall of backup. All are primary currents, in fifths of a mA, times volts.
-#[derive(Drop)]
+#[derive(Clone, Copy)]
 pub struct Fed {
     pub load: u64,
     pub excess: u64,

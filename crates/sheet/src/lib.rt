@@ -1,4 +1,6 @@
 // From the text of a list to the printed card or refusal [01 §6].
+#![tactic(auto)]
+
 ghost use Rattle.std.specs.Prelude.{◌≤◌, length};
 ghost use Rattle.sheet.specs.Sheet.{sheet_most, refused_with, sheet_of, fitted, Filled};
 ghost use Rattle.sheet.specs.Ready.{RowsReady};
@@ -17,7 +19,7 @@ const NAMES: usize = ROWS * 2;
 pub const SHEET_MOST: usize = HEADER + ROWS * LINE_MOST;
 
 // What is given for a text: the answer's numbers, and how many bytes are printed.
-#[derive(Drop)]
+#[derive(Clone, Copy)]
 pub struct Page {
     pub numbers: [u64; NUMBERS],
     pub bytes: usize,

@@ -1,20 +1,22 @@
 // The two sides of a row's current transformer [02 §1]. A number of one side becomes one of the other here, through the ratio, and
 // nowhere else.
+#![tactic(auto)]
+
 ghost use Rattle.std.specs.Prelude.{◌≡◌, ℕ, ◌*◌, ◌≤◌, ◌<◌, leb};
 ghost use Rattle.sides.specs.Sides.{keyed, scale, in_primary, setting_most, Rated};
 
 use grid::ceil_div;
 
 // A current on the primary side, in fifths of a mA: whole for every ratio, since the rated secondary is 1 or 5 A.
-#[derive(Drop)]
+#[derive(Clone, Copy)]
 pub struct Primary(pub u64);
 
 // A current on the relay's side, in mA: the number that is keyed. Where a row has no ratio that is primary mA, and its ratio is 1.
-#[derive(Drop)]
+#[derive(Clone, Copy)]
 pub struct Secondary(pub u64);
 
 // The rated primary and the rated secondary in A, 0 in both where a row has no ratio.
-#[derive(Drop)]
+#[derive(Clone, Copy)]
 pub struct Ratio {
     pub primary: u64,
     pub secondary: u64,

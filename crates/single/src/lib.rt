@@ -2,6 +2,7 @@
 // rounded [02 §4], down and up [02 §9], all by whole numbers. The single nearest 0.1 has the bits 0x3dcc_cccd: sign 0, exponent 123 and fraction
 // 5,033,165. In kA it is scaled by 1,000,000: (8,388,608 + 5,033,165) * 1,000,000 / 2 ^ 27, where 8,388,608 is the leading one, 2 ^ 23, and 27 is
 // 149 - (123 - 1). That is 100,000.0015 mA, so its sides are 100,000 and 100,001.
+#![tactic(auto)]
 
 ghost use Rattle.std.specs.Prelude.{◌≡◌, ◌*◌, ◌^◌, T};
 ghost use Rattle.std.specs.Float.{binary32};
@@ -13,27 +14,27 @@ ghost use Rattle.single.specs.SingleCurrent.{allowed, current_of};
 use grid::{ceil_div, greater};
 
 // The whole mA on both sides of an exact current: the greatest not above it and the least not below it [02 §9].
-#[derive(Drop)]
+#[derive(Clone, Copy)]
 pub struct Sides {
     pub lower: u64,
     pub upper: u64,
 }
 
 // A current by both its sides, of which the one that is used is from 1 to 100,000,000 mA, or a refusal.
-#[derive(Drop)]
+#[derive(Clone, Copy)]
 pub enum Current {
     Milliamperes(Sides),
     Refused,
 }
 
-#[derive(Drop)]
+#[derive(Clone, Copy)]
 pub enum Rounding {
     Up,
     Down,
 }
 
 // A single's 32 bits: one of sign, which is 1 for a minus, eight of exponent and 23 of fraction.
-#[derive(Drop)]
+#[derive(Clone, Copy)]
 struct Parts {
     pub sign: u64,
     pub exponent: u64,
@@ -41,7 +42,7 @@ struct Parts {
 }
 
 // A single times a scale: mantissa * 2 ^ power / 2 ^ 149. 1 / 2 ^ 149 is the smallest positive single.
-#[derive(Drop)]
+#[derive(Clone, Copy)]
 struct Product {
     pub mantissa: u64,
     pub power: u64,

@@ -1,4 +1,5 @@
 // Currents from the study package [01 §5]: two readings, each a single, turned into whole milliamperes (mA), with both sides of each [02 §9].
+#![tactic(auto)]
 
 ghost use Rattle.std.specs.Prelude.{◌≡◌, T};
 ghost use Rattle.study.specs.Currents.{rated_fits, reading_of, given, refused_at, answer_of, convert_of};
@@ -7,7 +8,7 @@ use answers::{Answer, numbers};
 use single::{Current, Rounding, Sides, allowed_current, used, whole_current};
 
 // A single in its unit.
-#[derive(Drop)]
+#[derive(Clone, Copy)]
 pub enum Quantity {
     Amperes(f32),
     Kiloamperes(f32),
@@ -15,13 +16,13 @@ pub enum Quantity {
 }
 
 // A quantity with the rated current in mA beside it, which is needed only per unit.
-#[derive(Drop)]
+#[derive(Clone, Copy)]
 pub struct Reading {
     pub quantity: Quantity,
     pub rated: u64,
 }
 
-#[derive(Drop)]
+#[derive(Clone, Copy)]
 pub struct Study {
     pub greatest: Reading,
     pub least: Reading,
@@ -29,14 +30,14 @@ pub struct Study {
 
 // The sides of both readings, in mA. Of a study that is done, the greatest's upper and the least's lower one are from 1 to 100,000,000; the greatest's
 // lower one may be 0, and the least's upper one 100,000,001.
-#[derive(Drop)]
+#[derive(Clone, Copy)]
 pub struct StudySides {
     pub greatest: Sides,
     pub least: Sides,
 }
 
 // The numbers given back [01 §4]: DONE with both currents in mA and the sides of both readings, or STUDY with its place and all of them 0.
-#[derive(Drop)]
+#[derive(Clone, Copy)]
 pub struct Converted {
     pub number: u64,
     pub place: u64,

@@ -1,4 +1,6 @@
 // The C boundary: the functions of include/surfpocket.h. Each calls one proved entry and hands its numbers on.
+#![tactic(auto)]
+
 ghost use Rattle.std.specs.Prelude.{◌≡◌, length};
 ghost use Rattle.change.specs.Replace.{replaced};
 ghost use Rattle.sheet.specs.Sheet.{sheet_of, fitted, Filled};
@@ -19,20 +21,20 @@ use sheet::sheet;
 use study::{Converted, Quantity, Reading, Study, convert, refused};
 
 #[repr(C)]
-#[derive(Drop)]
+#[derive(Clone, Copy)]
 pub struct SurfpocketAnswer {
     pub numbers: [u64; NUMBERS],
 }
 
 #[repr(C)]
-#[derive(Drop)]
+#[derive(Clone, Copy)]
 pub struct SurfpocketReplacement {
     pub numbers: [u64; NUMBERS],
     pub rows: u64,
 }
 
 #[repr(C)]
-#[derive(Drop)]
+#[derive(Clone, Copy)]
 pub struct SurfpocketStudy {
     pub number: u64,
     pub place: u64,
@@ -45,7 +47,7 @@ pub struct SurfpocketStudy {
 }
 
 #[repr(C)]
-#[derive(Drop)]
+#[derive(Clone, Copy)]
 pub struct SurfpocketDifferential {
     pub number: u64,
     pub place: u64,
@@ -58,7 +60,7 @@ pub struct SurfpocketDifferential {
 }
 
 #[repr(C)]
-#[derive(Drop)]
+#[derive(Clone, Copy)]
 pub struct SurfpocketPrinted {
     pub numbers: [u64; NUMBERS],
     pub bytes: usize,
@@ -104,7 +106,7 @@ pub extern "C" fn surfpocket_replace(
 }
 
 // A single in the unit of that number, if there is one.
-#[derive(Drop)]
+#[derive(Clone, Copy)]
 enum InUnit {
     Known(Quantity),
     Unknown,

@@ -1,4 +1,6 @@
 // Reading a text of lines under a header, each line of numbers with a name among them or none [01 §6].
+#![tactic(auto)]
+
 mod keep;
 mod layout;
 mod line;
@@ -15,7 +17,7 @@ use line::read_line;
 pub const NUMBERS_MOST: usize = 32;
 
 // The layout of a line: so many numbers, a name or none, so many numbers.
-#[derive(Drop)]
+#[derive(Clone, Copy)]
 pub struct Columns {
     pub before: usize,
     pub named: bool,
@@ -23,7 +25,7 @@ pub struct Columns {
 }
 
 // A line read: its numbers, and its name's start and length, with zeros behind them. All 0 where the line is bad.
-#[derive(Drop)]
+#[derive(Clone, Copy)]
 pub struct LineRead {
     pub good: bool,
     pub numbers: [u64; NUMBERS_MOST],
@@ -31,7 +33,7 @@ pub struct LineRead {
 }
 
 // What reading a text gives: its first bad line, 0 where it is too long, or the number of its rows.
-#[derive(Drop)]
+#[derive(Clone, Copy)]
 pub enum Reading {
     BadLine(u64),
     Rows(usize),
