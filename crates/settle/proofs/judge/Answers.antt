@@ -11,7 +11,6 @@ use Rattle.sides.specs.Sides.{setting_most}
 use Rattle.settle.specs.Conditions.{primary_of}
 use Rattle.settle.specs.Fed.{PrimaryBounded}
 use Rattle.settle.proofs.PickupLaws.{found-fits}
-use borrow.Author.Tests.{not-true, not-false}
 use Rattle.settle.specs.Settle.{by_backup}
 use Rattle.settle.proofs.OutcomeLaws.{unbacked-below, judge-blind, judge-fits, judge-searched}
 use Rattle.settle.proofs.judge.Goals as goal
@@ -29,7 +28,7 @@ sees_own_zone-requires c = let a = c.requires in
     (a.0.bounded, fits c.args.r c.args.x a.0.bounded a.2 _ c.in_primary-pickup.ensures)
 
 pub returns-then-not-sees_own_zone : goal.returns-then-not-sees_own_zone
-returns-then-not-sees_own_zone c = judge-blind _ _ _ _ _ _ c.in_primary-pickup.ensures (sym c.sees_own_zone.ensures ∙ not-true _ c.if-not-sees_own_zone.true)
+returns-then-not-sees_own_zone c = judge-blind _ _ _ _ _ _ c.in_primary-pickup.ensures (sym c.sees_own_zone.ensures ∙ c.if-not-sees_own_zone.true)
 
 pub backs_up_all-requires : goal.backs_up_all-requires
 backs_up_all-requires c = let a = c.requires in
@@ -37,21 +36,24 @@ backs_up_all-requires c = let a = c.requires in
 
 pub returns-then-backs_up_all : goal.returns-then-backs_up_all
 returns-then-backs_up_all c = judge-fits _ _ _ _ _ _ c.in_primary-pickup.ensures
-    (sym c.sees_own_zone.ensures ∙ not-false _ c.if-not-sees_own_zone.false)
+    (sym c.sees_own_zone.ensures ∙ c.if-not-sees_own_zone.false)
     (sym c.backs_up_all.ensures ∙ c.if-backs_up_all.true)
 
 pub first_unbacked-requires : goal.first_unbacked-requires
 first_unbacked-requires c = let a = c.requires in
     (a.0, fits c.args.r c.args.x a.0.bounded a.2 _ c.in_primary-pickup.ensures)
 
+pub overflow_add-result : goal.overflow_add-result
+overflow_add-result c = omega (arith, unbacked-below _ _ _ _ (sym c.first_unbacked.ensures ∙ c.in-At.is))
+
 pub returns-in-At : goal.returns-in-At
 unfolding by_backup
 returns-in-At c = judge-searched _ _ _ _ _ _ c.in_primary-pickup.ensures
-    (sym c.sees_own_zone.ensures ∙ not-false _ c.if-not-sees_own_zone.false)
+    (sym c.sees_own_zone.ensures ∙ c.if-not-sees_own_zone.false)
     (sym c.backs_up_all.ensures ∙ c.if-backs_up_all.false) _ (sym c.first_unbacked.ensures ∙ c.in-At.is)
 
 pub returns-in-Nothing : goal.returns-in-Nothing
 unfolding by_backup
 returns-in-Nothing c = judge-searched _ _ _ _ _ _ c.in_primary-pickup.ensures
-    (sym c.sees_own_zone.ensures ∙ not-false _ c.if-not-sees_own_zone.false)
+    (sym c.sees_own_zone.ensures ∙ c.if-not-sees_own_zone.false)
     (sym c.backs_up_all.ensures ∙ c.if-backs_up_all.false) _ (sym c.first_unbacked.ensures ∙ c.in-Nothing.is)

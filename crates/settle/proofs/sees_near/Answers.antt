@@ -2,14 +2,18 @@
 use native.Mathlib.Omega.{arith}
 use borrow.Author.Rules.{rules}
 use mathlib.Core.Path.{◌∙◌}
-use mathlib.Core.Logic.{⊎_elim}
 use borrow.Author.Tests.{eq-eqb, ne_eqb}
 use Rattle.settle.proofs.OutcomeLaws.{sees-near-is}
 use Rattle.settle.proofs.sees_near.Goals as goal
+use Rattle.settle.proofs.sees_near.Goals.{then-r-eq1, else-r-eq1}
 
 pub overflow_mul-result : goal.overflow_mul-result
-overflow_mul-result c = ⊎_elim (λ w. rw w.1 (omega arith)) (λ w. rw w.1 (omega arith)) c.if-r-eq1.branch
+overflow_mul-result c =
+    elim c.if-r-eq1.branch [ then-r-eq1 w ↦ rw w.factor-is (omega arith) | else-r-eq1 w ↦ rw w.factor-is (omega arith) ]
 
 pub returns : goal.returns
-returns c = sees-near-is _ _ _
-    (⊎_elim (λ w. w.1 ∙ rw (eq-eqb _ 1 w.0.taken)) (λ w. w.1 ∙ rw (ne_eqb _ 1 w.0.left)) c.if-r-eq1.branch)
+returns c =
+    elim c.if-r-eq1.branch [
+      then-r-eq1 w ↦ sees-near-is _ _ _ (w.factor-is ∙ rw (eq-eqb _ 1 w.if-r-eq1.true))
+    | else-r-eq1 w ↦ sees-near-is _ _ _ (w.factor-is ∙ rw (ne_eqb _ 1 w.if-r-eq1.false))
+    ]

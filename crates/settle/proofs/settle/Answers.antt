@@ -21,11 +21,11 @@ use Rattle.settle.proofs.settle.Goals.{After-time_row}
 -- what the second stage came to is the row's outcome
 second :
     (c : After-time_row) {t : Timed} → c.time_row.result ≡ t →
-    by_time c.args.r c.pickup-1.given.0.0 t ≡
+    by_time c.args.r c.in-Fits.pickup t ≡
     settled_by (view_of c.args.list.now) (card_row_at c.args.card.now)
     c.args.i c.args.r c.args.f
 second c e =
-    stage-two _ _ _ _ _ _ _ _ (sym c.pick.ensures ∙ c.pickup-1.given.1) c.in_primary.ensures
+    stage-two _ _ _ _ _ _ _ _ (sym c.pick.ensures ∙ c.in-Fits.is) c.in_primary.ensures
     (sym e ∙ c.time_row.ensures)
 
 -- with the cutoff that was found

@@ -2,7 +2,6 @@
 -- and where it is over it, so is every greater one.
 use borrow.Author.Rules.{rules}
 use mathlib.Core.Path.{◌≡◌, sym, ap, ap₂, ◌∙◌, subst}
-use mathlib.Core.Logic.{⊎_elim}
 use mathlib.Core.Bool.{Bool, true, false, cond, ◌&&◌}
 use Prim.Native.Nat.{ℕ, ◌≤◌, ◌<◌, max}
 use native.Mathlib.Nat.{le_trans}
@@ -20,7 +19,7 @@ use Rattle.settle.specs.Conditions.{within_delays}
 use Rattle.settle.specs.Settle.{tried_from, tried_to, least_setting}
 use Rattle.settle.proofs.TimeLaws.{tried-to, ceiling-down, within_both, capped-none, capped_at, capped-over}
 use Rattle.settle.proofs.times.least_time.Goals as goal
-use Rattle.settle.proofs.times.least_time.Goals.{Joined-r-eq3}
+use Rattle.settle.proofs.times.least_time.Goals.{Joined-r-eq3, then-r-eq3, else-r-eq3}
 
 -- the bound of D1 from below is `own`, and the least value from the later bound on is `found`
 module _ (r : Row) (m from : ℕ) (motor want own bound low high : ℕ) (found : Found) (em : motor ≡ cond (eqb r.kind 3) 100 0)
@@ -67,7 +66,11 @@ wanted-to r motor a want em ew = omega (arith, ew, em, by_kind (eqb r.kind 3), a
 
 -- a motor's least time
 joined_is : (c : Joined-r-eq3) → c.if-r-eq3.motor ≡ cond (eqb c.args.r.kind 3) 100 0
-joined_is c = ⊎_elim (λ w. w.1 ∙ rw (eq-eqb _ 3 w.0.taken)) (λ w. w.1 ∙ rw (ne_eqb _ 3 w.0.left)) c.if-r-eq3.branch
+joined_is c =
+    elim c.if-r-eq3.branch [
+      then-r-eq3 w ↦ w.motor-is ∙ rw (eq-eqb _ 3 w.if-r-eq3.true)
+    | else-r-eq3 w ↦ w.motor-is ∙ rw (ne_eqb _ 3 w.if-r-eq3.false)
+    ]
 
 pub least_setting-own-requires : goal.least_setting-own-requires
 least_setting-own-requires c = let a = c.requires in

@@ -28,7 +28,7 @@ ask-requires c = let w = c.loop-next.invariant in
 
 pub returns-in-Stuck : goal.returns-in-Stuck
 returns-in-Stuck c = walk-stuck _ _ _ _ _ _ _ c.loop-next.invariant c.loop-next-test.true _
-    (subst (WantedIs _ _ _ _ _ _) c.in-Stuck.is c.ask.ensures)
+    c.in-Stuck.ensures
 
 pub next_fed-next-requires : goal.next_fed-next-requires
 next_fed-next-requires c = (c.requires.2.linked, walk-row _ _ _ _ _ _ _ c.loop-next.invariant c.loop-next-test.true)
@@ -39,7 +39,7 @@ loop-next-smaller c = let w = c.loop-next.invariant in
 
 pub loop-next-preserved : goal.loop-next-preserved
 loop-next-preserved c = let w = c.loop-next.invariant in
-    walk-next _ _ _ _ _ _ _ w c.loop-next-test.true _ _ _ (subst (WantedIs _ _ _ _ _ _) c.in-From.is c.ask.ensures)
+    walk-next _ _ _ _ _ _ _ w c.loop-next-test.true _ _ _ c.in-From.ensures
     c.greater-from.ensures (c.next_fed-next.ensures _ (walk-feeds _ _ _ _ _ _ _ w c.loop-next-test.true))
 
 pub returns : goal.returns
