@@ -29,8 +29,8 @@ pub loop-done-preserved : goal.loop-done-preserved
 loop-done-preserved g c =
     let so-far = c.loop-done.invariant in
     let joined =
-        front-and-behind c.loop-done.done (length c.loop-done.text - c.loop-done.done) c.in-Ok.more c.loop-done.text c.read.new.buf
-        so-far.within c.in-Ok.ensures.bound.0 in
+    front-and-behind c.loop-done.done (length c.loop-done.text - c.loop-done.done) c.in-Ok.more c.loop-done.text c.read.new.buf
+    so-far.within c.in-Ok.ensures.bound.0 in
     record {
       within = search rules;
       as-long = search rules;
