@@ -7,7 +7,6 @@ use native.Mathlib.Omega.{arith}
 use lib.ListN.{get_or}
 use borrow.Author.Tests.{not-false}
 use Rattle.fold.specs.declared.Found.TheVariants.{At, Nothing}
-use Rattle.fold.specs.First.{first}
 use Rattle.fold.proofs.BoolLaws.{fails, not-both}
 use Rattle.fold.proofs.FirstLaws.{first-at, first-is, first-none, first-nothing}
 use Rattle.layout.specs.Fields.{in_bounds}

@@ -150,7 +150,7 @@ fn tried_to(r: Row) -> u64
 // of every greater one is.
 fn least_time(r: Row, m: u64, from: u64) -> Found
     requires { Bounded r × (m ≤ 20000) × (stalls r.law m ≡ false) }
-    ensures* { λ x. ⌜ x ≡ least_setting r (λ x. within_delays r (time_of r.law m x) && leb from x) ⌝ }
+    ensures { result ≡ least_setting r (λ x. within_delays r (time_of r.law m x) && leb from x) }
 {
     let motor = if r.kind == 3 { 100 } else { 0 };
     let own = least_setting(r.law, m, greater(r.floor, motor));

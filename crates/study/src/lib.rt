@@ -110,6 +110,7 @@ fn answer(greatest: Current, least: Current) -> Converted
 
 // The two currents of a study, the greatest rounded up and the least down, with both sides of each reading [02 §9]. A reading is refused by the side
 // that is used; the rated currents are tested before either reading.
+#[tactic(auto, unfolding(crate::specs::Currents::convert_of))]
 pub fn convert(s: Study) -> Converted
     ensures { result ≡ convert_of s }
 {

@@ -15,4 +15,4 @@ pub returns-then-a-b-4 : goal.returns-then-a-b-4
 returns-then-a-b-4 c = other-card-row c.args.a c.args.b (λ e. c.if-a-b-4.true (λ t. (e t).law))
 
 pub returns : goal.returns
-returns c = same-but-multiplier c.args.a c.args.b c.if-a-b.left c.if-a-b-2.left c.if-a-b-3.left c.if-a-b-4.false
+returns c = same-but-multiplier c.args.a c.args.b c.if-a-b.false c.if-a-b-2.false c.if-a-b-3.false c.if-a-b-4.false

@@ -1,0 +1,43 @@
+-- `rows::fault_by` meets its contract: the first field that is not right is in the first part, or in the second; then their order is judged.
+use native.Mathlib.Omega.{arith}
+use borrow.Author.Rules.{rules}
+use mathlib.Core.Path.{sym, ◌∙◌}
+use Rattle.layout.specs.Counts.{field_count}
+use borrow.Author.Tests.{not-false}
+use Rattle.fold.proofs.FirstLaws.{first-at, first-nothing}
+use Rattle.rows.proofs.InRangeLaws.{field-in-range}
+use Rattle.rows.proofs.TestLaws.{wrong-before, wrong-behind, none-wrong, fault-found, fault-after}
+use Rattle.rows.proofs.fault_by.Goals as goal
+
+pub first_wrong-requires : goal.first_wrong-requires
+first_wrong-requires c = let a = c.requires in (a.0, a.1, omega arith, omega arith)
+
+pub overflow_add-result : goal.overflow_add-result
+overflow_add-result c = omega (arith, (first-at _ _ 0 _ (sym c.first_wrong.ensures ∙ c.in-At.is)).below)
+
+pub first_wrong-requires-in-Nothing : goal.first_wrong-requires-in-Nothing
+first_wrong-requires-in-Nothing c = let a = c.requires in (a.0, a.1, omega arith, omega arith)
+
+pub overflow_add-result-in-At-first_wrong : goal.overflow_add-result-in-At-first_wrong
+overflow_add-result-in-At-first_wrong c = omega (arith, (first-at _ _ _ _ (sym c.first_wrong-in-Nothing.ensures ∙ c.in-At-first_wrong.is)).below)
+
+-- no field is wrong by itself
+pub order_fault-requires : goal.order_fault-requires
+order_fault-requires c = let none = none-wrong _ _ _ (omega arith) (sym c.first_wrong.ensures ∙ c.in-Nothing.is)
+    (sym c.first_wrong-in-Nothing.ensures ∙ c.in-Nothing-first_wrong.is) in (
+      c.requires.0,
+      λ k h. field-in-range _ _ k (not-false _ (first-nothing _ field_count 0 none k (omega arith) (omega arith))),
+    )
+
+pub returns-in-At : goal.returns-in-At
+returns-in-At c = fault-found _ _ _ (wrong-before _ _ _ (omega arith) _ (sym c.first_wrong.ensures ∙ c.in-At.is))
+
+pub returns-in-At-first_wrong : goal.returns-in-At-first_wrong
+returns-in-At-first_wrong c = fault-found _ _ _
+    (wrong-behind _ _ _ (omega arith) (sym c.first_wrong.ensures ∙ c.in-Nothing.is) _
+    (sym c.first_wrong-in-Nothing.ensures ∙ c.in-At-first_wrong.is))
+
+pub returns-in-Nothing-first_wrong : goal.returns-in-Nothing-first_wrong
+returns-in-Nothing-first_wrong c = fault-after _ _ _
+    (none-wrong _ _ _ (omega arith) (sym c.first_wrong.ensures ∙ c.in-Nothing.is)
+    (sym c.first_wrong-in-Nothing.ensures ∙ c.in-Nothing-first_wrong.is)) c.order_fault.ensures

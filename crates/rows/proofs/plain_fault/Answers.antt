@@ -1,0 +1,35 @@
+-- `rows::plain_fault` meets its contract: the first field that is not right is in the first part, or in the second; then low and high are compared.
+use native.Mathlib.Omega.{arith}
+use borrow.Author.Rules.{rules}
+use mathlib.Core.Path.{sym, ◌∙◌}
+use Rattle.fold.proofs.FirstLaws.{first-at}
+use Rattle.rows.proofs.TestLaws.{wrong-before, wrong-behind, none-wrong, fault-found, fault-after}
+use Rattle.rows.proofs.plain_fault.Goals as goal
+
+pub first_wrong-requires : goal.first_wrong-requires
+first_wrong-requires c = let a = c.requires in (a.0, a.1, omega arith, omega arith)
+
+pub overflow_add-result : goal.overflow_add-result
+overflow_add-result c = omega (arith, (first-at _ _ 0 _ (sym c.first_wrong.ensures ∙ c.in-At.is)).below)
+
+pub first_wrong-requires-in-Nothing : goal.first_wrong-requires-in-Nothing
+first_wrong-requires-in-Nothing c = let a = c.requires in (a.0, a.1, omega arith, omega arith)
+
+pub overflow_add-result-in-At-first_wrong : goal.overflow_add-result-in-At-first_wrong
+overflow_add-result-in-At-first_wrong c = omega (arith, (first-at _ _ _ _ (sym c.first_wrong-in-Nothing.ensures ∙ c.in-At-first_wrong.is)).below)
+
+pub plain_order-requires : goal.plain_order-requires
+plain_order-requires c = let a = c.requires in (a.0, a.2)
+
+pub returns-in-At : goal.returns-in-At
+returns-in-At c = fault-found _ _ _ (wrong-before _ _ _ (omega arith) _ (sym c.first_wrong.ensures ∙ c.in-At.is))
+
+pub returns-in-At-first_wrong : goal.returns-in-At-first_wrong
+returns-in-At-first_wrong c = fault-found _ _ _
+    (wrong-behind _ _ _ (omega arith) (sym c.first_wrong.ensures ∙ c.in-Nothing.is) _
+    (sym c.first_wrong-in-Nothing.ensures ∙ c.in-At-first_wrong.is))
+
+pub returns-in-Nothing-first_wrong : goal.returns-in-Nothing-first_wrong
+returns-in-Nothing-first_wrong c = fault-after _ _ _
+    (none-wrong _ _ _ (omega arith) (sym c.first_wrong.ensures ∙ c.in-Nothing.is)
+    (sym c.first_wrong-in-Nothing.ensures ∙ c.in-Nothing-first_wrong.is)) c.plain_order.ensures

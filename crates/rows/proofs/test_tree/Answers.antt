@@ -1,0 +1,16 @@
+-- `rows::test_tree` meets its contract: the first row fed wrongly decides.
+use native.Mathlib.Omega.{arith}
+use borrow.Author.Rules.{rules}
+use mathlib.Core.Path.{sym, ◌∙◌}
+use Rattle.fold.proofs.FirstLaws.{first_below}
+use Rattle.rows.proofs.TestLaws.{tree-found, tree-none}
+use Rattle.rows.proofs.test_tree.Goals as goal
+
+pub overflow_add-result : goal.overflow_add-result
+overflow_add-result c = omega (arith, first_below _ (sym c.first_fed_wrongly.ensures ∙ c.in-At.is))
+
+pub returns-in-At : goal.returns-in-At
+returns-in-At c = tree-found _ _ (sym c.first_fed_wrongly.ensures ∙ c.in-At.is)
+
+pub returns-in-Nothing : goal.returns-in-Nothing
+returns-in-Nothing c = tree-none _ (sym c.first_fed_wrongly.ensures ∙ c.in-Nothing.is)

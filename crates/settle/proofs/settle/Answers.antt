@@ -1,0 +1,59 @@
+-- `settle::settle` meets its contract: the pickup, or the cause that there is none; then the second stage at that pickup.
+use borrow.Author.Rules.{rules}
+use mathlib.Core.Path.{◌≡◌, sym, ap, ◌∙◌, subst}
+use Prim.Native.Nat.{ℕ}
+use Rattle.layout.specs.declared.Row.{Row}
+use Rattle.layout.specs.Card.{card_row_at}
+use Rattle.layout.specs.View.{view_of}
+use Rattle.settle.specs.declared.Cutoff.{Cutoff}
+use Rattle.settle.specs.declared.Settled.{Settled}
+use Rattle.settle.specs.declared.Settled.TheVariants.{Set}
+use Rattle.settle.specs.declared.Timed.{Timed}
+use Rattle.settle.specs.declared.Timed.TheVariants.{Setting}
+use Rattle.sides.specs.declared.Secondary.{Secondary}
+use Rattle.settle.specs.Fed.{PrimaryBounded, settled_by}
+use Rattle.settle.specs.Settle.{cutoff_of}
+use Rattle.settle.proofs.OutcomeLaws.{by_time, no-pickup, stage-two, picked-to}
+use Rattle.settle.proofs.PickupLaws.{found-fits}
+use Rattle.settle.proofs.settle.Goals as goal
+use Rattle.settle.proofs.settle.Goals.{After-time_row}
+
+-- what the second stage came to is the row's outcome
+second :
+    (c : After-time_row) {t : Timed} → c.time_row.result ≡ t →
+    by_time c.args.r c.in-Fits.pickup t ≡
+    settled_by (view_of c.args.list.now) (card_row_at c.args.card.now)
+    c.args.i c.args.r c.args.f
+second c e =
+    stage-two _ _ _ _ _ _ _ _ (sym c.pick.ensures ∙ c.in-Fits.is) c.in_primary.ensures
+    (sym e ∙ c.time_row.ensures)
+
+-- with the cutoff that was found
+fitted :
+    (r : Row) (x : Secondary) (t : ℕ) (c : Cutoff) → c ≡ cutoff_of r →
+    Set (record { pickup = x; law = r.law; setting = t; cutoff = c }) ≡ by_time r x (Setting t)
+fitted r x t c e = ap (λ (c : Cutoff). Set (record { pickup = x; law = r.law; setting = t; cutoff = c })) e
+
+pub in_primary-requires : goal.in_primary-requires
+in_primary-requires c = let a = c.requires in
+    (a.0.bounded.rated, picked-to _ _ _ _ a.0.bounded _ (sym c.pick.ensures ∙ c.in-Fits.is))
+
+pub time_row-requires : goal.time_row-requires
+time_row-requires c = let a = c.requires in (
+      a.0,
+      subst PrimaryBounded (sym c.in_primary.ensures)
+          (found-fits _ a.0.bounded _ (picked-to _ _ _ _ a.0.bounded _ (sym c.pick.ensures ∙ c.in-Fits.is))),
+      a.2,
+    )
+
+pub returns-in-Unfit : goal.returns-in-Unfit
+returns-in-Unfit c = no-pickup _ _ _ _ _ _ (sym c.pick.ensures ∙ c.in-Unfit.is)
+
+pub returns-in-Stalled : goal.returns-in-Stalled
+returns-in-Stalled c = second (goal.at.returns-in-Stalled c).After-time_row c.in-Stalled.is
+
+pub returns-in-NoSetting : goal.returns-in-NoSetting
+returns-in-NoSetting c = second (goal.at.returns-in-NoSetting c).After-time_row c.in-NoSetting.is
+
+pub returns-in-Setting : goal.returns-in-Setting
+returns-in-Setting c = fitted _ _ _ _ c.cutoff_at.ensures ∙ second (goal.at.returns-in-Setting c).After-time_row c.in-Setting.is
