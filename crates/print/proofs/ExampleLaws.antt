@@ -8,13 +8,13 @@ use Rattle.print.specs.Card.{fields_text, numbers_text, line_text, rows_text, ca
 
 pub card-printed :
     card_text (spelt "F1" ∷ spelt "IN" ∷ []) (318000 ∷ 1900 ∷ 1300000 ∷ 0 ∷ 0 ∷ 360000 ∷ 2200 ∷ 4290000 ∷ 0 ∷ 0 ∷ []) ≡
-    spelt "name,pickup,delay,cutoff,law,multiplier\r\n_F1,318000,1900,1300000,0,0\r\n_iN,360000,2200,4290000,0,0\r\n"
+    spelt "name,pickup,delay,cutoff,law,multiplier\r\nF1,318000,1900,1300000,0,0\r\nIN,360000,2200,4290000,0,0\r\n"
 unfolding last_digit last_digits number_text fields_text line_text rows_text card_text spelt
 card-printed = refl
 
 pub curve-printed :
     card_text (spelt "M1" ∷ []) (5500 ∷ 0 ∷ 24500 ∷ 2 ∷ 137 ∷ []) ≡
-    spelt "name,pickup,delay,cutoff,law,multiplier\r\n_M1,5500,0,24500,2,137\r\n"
+    spelt "name,pickup,delay,cutoff,law,multiplier\r\nM1,5500,0,24500,2,137\r\n"
 unfolding last_digit last_digits number_text fields_text line_text rows_text card_text spelt
 curve-printed = refl
 

@@ -14,8 +14,12 @@ pub fields-short : (k : ℕ) (values : List ℕ) → length (fields_text k value
 unfolding fields_text
 fields-short zero values = omega arith
 fields-short (suc k) values =
-    omega
-    (arith, fields-short k (drop 1 values), number-few (get_or values 0 0), length-append (44 ∷ number_text (get_or values 0 0)) (fields_text k (drop 1 values)))
+    omega (
+      arith,
+      fields-short k (drop 1 values),
+      number-few (get_or values 0 0),
+      length-append (44 ∷ number_text (get_or values 0 0)) (fields_text k (drop 1 values)),
+    )
 
 -- a line of k numbers
 pub numbers-short : (k : ℕ) (values : List ℕ) → length (numbers_text k values) ≤ numbers_line_most k

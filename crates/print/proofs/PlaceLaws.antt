@@ -50,10 +50,16 @@ module _ (size : ℕ) (places : List ℕ) (i : ℕ) where
 -- the part of the text from start to start + long is the name there
 pub name-part :
     (s places : List ℕ) (i : ℕ) →
-    take (get_or places (i * 2) 0 + get_or places (i * 2 + 1) 0 - get_or places (i * 2) 0) (drop (get_or places (i * 2) 0) s) ≡ name_at_place s (drop (i * 2) places)
+    take (get_or places (i * 2) 0 + get_or places (i * 2 + 1) 0 - get_or places (i * 2) 0) (drop (get_or places (i * 2) 0) s) ≡
+    name_at_place s (drop (i * 2) places)
 unfolding name_at_place
 name-part s places i =
-    rw (add-sub_cancel_left (get_or places (i * 2) 0) (get_or places (i * 2 + 1) 0), get_or-drop (i * 2) places 1 0, get_or-drop (i * 2) places 0 0, add-zero (i * 2))
+    rw (
+      add-sub_cancel_left (get_or places (i * 2) 0) (get_or places (i * 2 + 1) 0),
+      get_or-drop (i * 2) places 1 0,
+      get_or-drop (i * 2) places 0 0,
+      add-zero (i * 2),
+    )
 
 pub part-short : (s : List ℕ) (a n : ℕ) → length (take (a + n - a) (drop a s)) ≤ n
 part-short s a n = omega (arith, length-take (a + n - a) (drop a s))

@@ -38,8 +38,8 @@ pub inputs_read :
     (is_line input_columns inputs ≡ true) ×
     (row_of input_columns inputs ≡ record { numbers = 30 ∷ 300 ∷ 150 ∷ 800 ∷ 400 ∷ 20 ∷ 15 ∷ 100 ∷ []; names = [] }) ×
     (is_line input_columns first_card ≡ false)
-unfolding spelt inputs first_card input_columns columns_of digit_byte passes run digits is_number decimal number_of is_comma is_cell cell_length after_cell is_end are_cells
-    cell_numbers cell_names is_line numbers_of names_of row_of
+unfolding spelt inputs first_card input_columns columns_of digit_byte passes run digits is_number decimal number_of is_comma is_cell cell_length after_cell is_end
+    are_cells cell_numbers cell_names is_line numbers_of names_of row_of
 inputs_read = (refl, refl, refl)
 
 -- the same text behind another: line numbers and places go on from there
@@ -48,7 +48,7 @@ pub second-read :
     (read_as card_header card_columns 4 (drop (length card_example) (card_example ++ card_example ++ (65 ∷ []))) ≡ BadLine 7) ×
     (names_at (card_example ++ card_example) 2 (places_as card_columns (length card_example) (drop (length card_example) (card_example ++ card_example))) ≡
     spelt "F1" ∷ spelt "\"I,N\"" ∷ [])
-unfolding spelt card_example card_header first_card second_card card_columns columns_of digit_byte plain_byte bare_byte crlf passes run digits is_number plain_part bare_end
-    name_end is_found place_found is_name name_length is_comma is_cell cell_length after_cell is_end are_cells cell_places is_line places_of onto lines line_length
-    after_line same_bytes size_right headed row_lines next_is_line good_lines lines_read read_as all_places places_as name_at_place names_at
+unfolding spelt card_example card_header first_card second_card card_columns columns_of digit_byte plain_byte bare_byte crlf passes run digits is_number plain_part
+    bare_end name_end is_found place_found is_name name_length is_comma is_cell cell_length after_cell is_end are_cells cell_places is_line places_of onto lines
+    line_length after_line same_bytes size_right headed row_lines next_is_line good_lines lines_read read_as all_places places_as name_at_place names_at
 second-read = (refl, refl, refl)
