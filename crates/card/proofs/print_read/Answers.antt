@@ -3,4 +3,4 @@ use Rattle.sheet.proofs.RoomLaws.{room-enough}
 use Rattle.card.proofs.print_read.Goals as goal
 
 pub returns : goal.returns
-returns c = rw (room-enough _ _ c.requires.1) at c.sheet.ensures.printed
+returns c = rw (room-enough _ _ c.requires.1) at c.sheet-page.ensures.printed
