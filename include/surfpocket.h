@@ -1,6 +1,6 @@
 /* Surfpocket: settings cards of overcurrent relays and of transformer differential relays, worked out by proved code.
 
-   `rt staticlib surfpocket` makes target/staticlib/libsurfpocket.a to link.
+   `rt lib` in crates/surfpocket makes crates/surfpocket/out/libsurfpocket.a to link.
 
    What is assumed of a caller:
    - A pointer is good for the length that follows it, counted in numbers of 64 bits (aligned for them) or, for a text, in bytes.

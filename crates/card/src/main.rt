@@ -19,16 +19,22 @@ fn print_read(text: &[u8], size: usize, out: &mut [u8]) -> usize
     page.bytes
 }
 
-fn main() {
+fn main(rt: HostRuntime) {
     let mut text = [0u8; TEXT_ROOM];
-    let input = read_input(&mut text);
+    let input = read_input(&mut rt.stdin(), &mut text);
     let Input::Read(size) = input else {
-        say(b"card: standard input could not be read\n");
+        say(
+            &mut rt.stderr(),
+            b"card: standard input could not be read\n",
+        );
         return;
     };
     let mut out = [0u8; SHEET_MOST];
     let bytes = print_read(&text, size, &mut out);
-    if !write_output(&out[..bytes]) {
-        say(b"card: standard output could not be written whole\n");
+    if !write_output(&mut rt.stdout(), &out[..bytes]) {
+        say(
+            &mut rt.stderr(),
+            b"card: standard output could not be written whole\n",
+        );
     }
 }

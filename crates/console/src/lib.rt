@@ -1,10 +1,12 @@
-// What the programs do with their streams: standard input read to its end or until the buffer is full, standard output written whole,
-// and a message on standard error. The kit has no exit status.
+// What the programs do with their streams: an input read to its end or until the buffer is full, an output written whole, and a message
+// that may be lost.
 #![tactic(auto)]
 
-ghost use Rattle.console.specs.Input.{Held};
+ghost use Rattle.std.specs.Prelude.{◌≡◌, true};
+ghost use Rattle.std.specs.Io.KnownBytes.{Appends};
+ghost use Rattle.console.specs.Input.{Held, Taken};
 
-use libc::{STDERR_FILENO, STDIN_FILENO, STDOUT_FILENO};
+use std::io::{Read, Write};
 
 // How reading ended: with so many bytes at the start of the buffer, or at a read that failed.
 #[derive(Clone, Copy)]
@@ -14,16 +16,15 @@ pub enum Input {
 }
 
 // Reads until the buffer is full or the input ends.
-pub fn read_input(text: &mut [u8]) -> Input
-    ensures { Held result text.new }
+pub fn read_input<R: Read>(source: &mut R, text: &mut [u8]) -> Input
+    ensures held { Held result text.new }
+    ensures bytes { Taken (R.remaining source.old) (R.remaining source.new) result text.new }
 {
     let mut done = 0;
     while done < text.len() {
-        let got = libc::read(STDIN_FILENO, &mut text[done..]);
-        if got < 0 {
+        let Ok(more) = source.read(&mut text[done..]) else {
             return Input::Failed;
-        }
-        let more = io::count(got, &text[done..]);
+        };
         if more == 0 {
             return Input::Read(done);
         }
@@ -32,14 +33,16 @@ pub fn read_input(text: &mut [u8]) -> Input
     Input::Read(done)
 }
 
-// Writes all of the bytes and closes the output, where a late failure shows.
-pub fn write_output(bytes: &[u8]) -> bool {
-    if !io::write_all(STDOUT_FILENO, bytes) {
+// Writes all of the bytes and hands them on. No call of the library's closes a standard stream.
+pub fn write_output<W: Write>(sink: &mut W, bytes: &[u8]) -> bool
+    ensures { result ≡ true → Appends (W.contents sink.old) (W.contents sink.new) bytes.now }
+{
+    if sink.write_all(bytes).is_err() {
         return false;
     }
-    libc::close(STDOUT_FILENO) == 0
+    sink.flush().is_ok()
 }
 
-pub fn say(message: &[u8]) {
-    io::write_all(STDERR_FILENO, message);
+pub fn say<W: Write>(sink: &mut W, message: &[u8]) {
+    let _ = sink.write_all(message);
 }

@@ -8,6 +8,7 @@ ghost use Rattle.diffsheet.specs.Sheet.{diff_most, diff_of};
 
 use console::{Input, read_input, say, write_output};
 use diffsheet::{DIFF_MOST, diffsheet};
+use std::io::Write;
 use text::TEXT_ROOM;
 
 // What was read is the text, and what is printed for it stands at the start of the buffer.
@@ -18,16 +19,34 @@ fn print_read(text: &[u8], size: usize, out: &mut [u8]) -> usize
     diffsheet(&text[..size], out)
 }
 
-fn main() {
+// What is printed for the text is written whole. The buffer is an array by its type, since the check can't compute with its zeros.
+fn write_printed<W: Write>(
+    sink: &mut W,
+    text: &[u8],
+    size: usize,
+    out: &mut [u8; DIFF_MOST],
+) -> bool
+    requires { size ≤ length text.now }
+{
+    let bytes = print_read(text, size, out);
+    write_output(sink, &out[..bytes])
+}
+
+fn main(rt: HostRuntime) {
     let mut text = [0u8; TEXT_ROOM];
-    let input = read_input(&mut text);
+    let input = read_input(&mut rt.stdin(), &mut text);
     let Input::Read(size) = input else {
-        say(b"diffcard: standard input could not be read\n");
+        say(
+            &mut rt.stderr(),
+            b"diffcard: standard input could not be read\n",
+        );
         return;
     };
     let mut out = [0u8; DIFF_MOST];
-    let bytes = print_read(&text, size, &mut out);
-    if !write_output(&out[..bytes]) {
-        say(b"diffcard: standard output could not be written whole\n");
+    if !write_printed(&mut rt.stdout(), &text, size, &mut out) {
+        say(
+            &mut rt.stderr(),
+            b"diffcard: standard output could not be written whole\n",
+        );
     }
 }

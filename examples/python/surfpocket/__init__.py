@@ -8,7 +8,7 @@ import tempfile
 
 HOME = pathlib.Path(__file__).resolve().parents[3]
 HEADER = HOME / "include/surfpocket.h"
-ARCHIVE = HOME / "target/staticlib/libsurfpocket.a"
+ARCHIVE = HOME / "crates/surfpocket/out/libsurfpocket.a"
 
 # the header's constants by their names without SURFPOCKET_, as SIZE_FIELDS
 CONSTANT = {name: int(value) for name, value in re.findall(r"#define SURFPOCKET_(\w+) (\d+)", HEADER.read_text())}

@@ -1,0 +1,12 @@
+-- `diffsheet::put_lines` meets its contract. The loop's invariant: the lines written and those left make up all. The measure is the number left.
+use Prim.Native.Nat.{◌-◌}
+use Rattle.print.proofs.PartlyLaws.{Partly}
+use Rattle.diffsheet.specs.Sheet.{line_most}
+use Rattle.diffsheet.proofs.LinesLaws.{lines_left}
+use Rattle.diffsheet.proofs.put_lines.Given as goal
+
+abbrev pub invariant-loop-i : goal.invariant-loop-i
+invariant-loop-i l = Partly l.n line_most (lines_left l.n l.inputs) l.initial.out l.at l.out l.next l.i
+
+abbrev pub decreases-loop-i : goal.decreases-loop-i
+decreases-loop-i l = l.n - l.i
