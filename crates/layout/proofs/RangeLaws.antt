@@ -13,7 +13,7 @@ use Rattle.fold.proofs.BoolLaws.{and_left, and_right, and_both, passes-or-fails}
 use Rattle.fold.proofs.FoldLaws.{below-cases}
 use Rattle.layout.specs.declared.CardRow.{CardRow}
 use Rattle.layout.specs.Card.{column, card_row_at, column_bounds_to}
-use Rattle.layout.specs.Counts.{field_count, column_count}
+use Rattle.layout.specs.Counts.{column_count}
 use Rattle.layout.specs.Fields.{at_feeder, at_kind, at_volts, at_work, at_selfstart, at_return, at_far, at_clear, at_near, at_factor, at_low, at_high, at_step}
 use Rattle.layout.specs.Fields.{at_device, at_floor, at_ceiling, at_backed, at_primary, at_secondary, at_law, at_greatest}
 use Rattle.layout.specs.Fields.{least_in, greatest_in, in_bounds}

@@ -2,12 +2,12 @@
 use mathlib.Core.Path.{◌≡◌}
 use mathlib.Core.Logic.{⊎_elim}
 use mathlib.Core.List.{List}
-use Prim.Native.Nat.{ℕ, ◌+◌, ◌*◌, ◌≤◌, ◌<◌}
+use Prim.Native.Nat.{ℕ, ◌+◌, ◌*◌, ◌≤◌}
 use native.Mathlib.Omega.{arith}
 use lib.Dec.{eqb}
 use lib.ListN.{length, get_or}
 use borrow.Author.Tests.{eqb-true, eqb-false}
-use Rattle.feeding.specs.Fed.{link_count, feeder_of, LinkReady}
+use Rattle.feeding.specs.Fed.{link_count, LinkReady}
 use Rattle.fold.proofs.BoolLaws.{passes-or-fails}
 use Rattle.layout.specs.Counts.{rows_most}
 use Rattle.layout.specs.List.{rows}

@@ -1,6 +1,6 @@
 -- [02 §1] "P1 to P4 and the cutoff are judged on it exactly": the conditions on a pickup or cutoff x as it is keyed, multiplied out in whole
 -- numbers, by the fields of the list and the ratio top / bottom of the row: 1 / 1 where it has none. Nothing is rounded.
-use mathlib.Core.Path.{◌≡◌, refl, sym, ap, ap₂, ◌∙◌}
+use mathlib.Core.Path.{◌≡◌, refl, ap, ap₂, ◌∙◌}
 use mathlib.Core.Bool.{Bool, true, false, not, cond, ◌&&◌}
 use mathlib.Core.Logic.{◌↔◌, ⊎_elim}
 use mathlib.Core.List.{List}

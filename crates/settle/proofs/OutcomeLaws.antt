@@ -17,7 +17,6 @@ use Rattle.grid.proofs.GridLaws.{least_on-least}
 use Rattle.layout.specs.declared.Row.{Row}
 use Rattle.layout.specs.Range.{Bounded}
 use Rattle.layout.specs.View.{View, Settings}
-use Rattle.settle.specs.declared.Cutoff.{Cutoff}
 use Rattle.settle.specs.declared.Cutoff.TheVariants.{Fitted, NotFitted}
 use Rattle.settle.specs.declared.Fed.{Fed}
 use Rattle.settle.specs.declared.Outcome.{Outcome}

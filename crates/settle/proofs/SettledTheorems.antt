@@ -1,11 +1,10 @@
 -- A row is settled, or refused with RANGE, OWN ZONE or BACKUP, with CURVE or with DELAY, exactly as sections 3 and 4 and requests §2 and §3
 -- say. That its fields are in range is section 2's. Read with specs/Inequalities.antt.
 use mathlib.Core.Path.{◌≡◌, refl, sym, ap, ◌∙◌, subst}
-use mathlib.Core.Bool.{Bool, true, false, cond}
+use mathlib.Core.Bool.{true}
 use mathlib.Core.Logic.{◌↔◌}
-use Prim.Native.Nat.{ℕ, ◌≤◌, ◌<◌}
+use Prim.Native.Nat.{ℕ, ◌≤◌}
 use native.Mathlib.Omega.{arith}
-use Rattle.curve.specs.Curve.{is_curve}
 use Rattle.fold.specs.declared.Found.{Found}
 use Rattle.fold.specs.declared.Found.TheVariants.{At, Nothing}
 use Rattle.fold.proofs.BoolLaws.{fails, not-both}
@@ -15,17 +14,16 @@ use Rattle.answers.specs.declared.Cause.{Cause}
 use Rattle.answers.specs.declared.Cause.TheVariants.{Range}
 use Rattle.answers.specs.declared.Reason.TheVariants.{Pickup, Curve, Delay}
 use Rattle.layout.specs.declared.CardRow.{CardRow}
-use Rattle.layout.specs.declared.Row.{Row}
 use Rattle.layout.specs.Range.{Bounded}
 use Rattle.layout.specs.View.{View, Settings}
 use Rattle.layout.proofs.CardLaws.{same-columns}
 use Rattle.settle.specs.declared.Outcome.{Outcome}
 use Rattle.settle.specs.declared.Picked.TheVariants.{Fits}
-use Rattle.settle.specs.declared.Settled.TheVariants.{Set, Unset}
+use Rattle.settle.specs.declared.Settled.TheVariants.{Unset}
 use Rattle.sides.specs.declared.Primary.{Primary}
 use Rattle.sides.specs.declared.Secondary.{Secondary}
 use Rattle.settle.specs.Conditions.{primary_of, pickup_at, multiple_at, setting_of}
-use Rattle.settle.specs.Inequalities.{AvailableOn, PickupMet, LeastPickup, Runs, CurveIs, TimeMet, NoTime}
+use Rattle.settle.specs.Inequalities.{LeastPickup, Runs, CurveIs, TimeMet, NoTime}
 use Rattle.settle.specs.Inequalities.{NoCandidate, CauseIs, LeastRow, RowSettled}
 use Rattle.settle.specs.Inequalities.CauseIs.{RANGE}
 use Rattle.settle.specs.Settle.{pickup_of, stalled, meets_time, least_setting, tried_from, tried_to}

@@ -1,7 +1,6 @@
 -- [02 §3] The second stage of settling a row, one law for each way that its functions end.
 use mathlib.Core.Path.{◌≡◌, refl, sym, ap, ap₂, ◌∙◌}
 use mathlib.Core.Bool.{Bool, true, false, cond, ◌&&◌}
-use mathlib.Core.Logic.{⊎_elim}
 use Prim.Native.Nat.{ℕ, ◌+◌, ◌≤◌}
 use native.Mathlib.Omega.{arith}
 use lib.Dec.{leb}
@@ -9,11 +8,10 @@ use Rattle.curve.specs.Curve.{stalls, setting_to, time_of}
 use Rattle.curve.proofs.CurveLaws.{time-to, definite-runs, definite-time, definite-setting}
 use Rattle.fold.specs.declared.Found.{Found}
 use Rattle.fold.specs.declared.Found.TheVariants.{At, Nothing}
-use Rattle.fold.proofs.BoolLaws.{not-both, passes-or-fails, zero-not-one}
+use Rattle.fold.proofs.BoolLaws.{not-both, zero-not-one}
 use Rattle.layout.specs.declared.CardRow.{CardRow}
 use Rattle.layout.specs.declared.Row.{Row}
 use Rattle.layout.specs.View.{View, Settings}
-use Rattle.settle.specs.declared.FedTime.{FedTime}
 use Rattle.settle.specs.declared.FedTime.TheVariants.{Takes, Slow}
 use Rattle.settle.specs.declared.Timed.TheVariants.{Setting, Stalled, NoSetting}
 use Rattle.settle.specs.declared.Wanted.TheVariants.{From, Stuck}

@@ -1,9 +1,9 @@
 -- [02 §3] A row's settings: what is tried of them, what a card row shows of them, the M that are needed, and the least setting that meets D1,
 -- from a bound on: where its time is over the ceiling, so is that of every greater one.
-use mathlib.Core.Path.{◌≡◌, refl, sym, ap, ap₂, ◌∙◌}
+use mathlib.Core.Path.{◌≡◌, refl, sym, ap, ◌∙◌}
 use mathlib.Core.Bool.{Bool, true, false, not, cond, ◌&&◌, ◌||◌}
 use mathlib.Core.Logic.{⊎_elim}
-use Prim.Native.Nat.{ℕ, ◌+◌, ◌-◌, ◌*◌, ◌≤◌, ◌<◌, max}
+use Prim.Native.Nat.{ℕ, ◌+◌, ◌-◌, ◌*◌, ◌≤◌, max}
 use native.Mathlib.Nat.{le_trans}
 use native.Mathlib.Omega.{arith}
 use lib.Dec.{leb, eqb}
@@ -22,7 +22,7 @@ use Rattle.settle.specs.declared.Outcome.{Outcome}
 use Rattle.sides.specs.declared.Primary.{Primary}
 use Rattle.settle.specs.Conditions.{multiple_at, setting_of, within_delays}
 use Rattle.settle.specs.Inequalities.{Offered, WithinDelays}
-use Rattle.settle.specs.Settle.{shown, tried_from, tried_to, least_setting}
+use Rattle.settle.specs.Settle.{shown, tried_from, tried_to}
 use Rattle.settle.specs.Times.{needed_multiple}
 
 -- a law is definite or a curve

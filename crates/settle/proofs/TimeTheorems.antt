@@ -2,8 +2,8 @@
 --     time-exactly        a setting meets D1, and D2 for each fed row
 --     curve-exactly       CURVE names the row whose M, needed and in the order given, is the first at most 1.000
 --     runs-all-exactly    otherwise every M that is needed is over 1.000
-use mathlib.Core.Path.{◌≡◌, refl, sym, ap, ◌∙◌, subst}
-use mathlib.Core.Bool.{Bool, true, false, cond, ◌&&◌, ◌||◌}
+use mathlib.Core.Path.{◌≡◌, refl, ◌∙◌, subst}
+use mathlib.Core.Bool.{Bool, true, false, cond, ◌||◌}
 use mathlib.Core.Logic.{◌↔◌, ⊎_elim}
 use Prim.Native.Nat.{ℕ, ◌+◌, ◌<◌}
 use native.Mathlib.Omega.{arith}
@@ -12,7 +12,6 @@ use Rattle.fold.specs.declared.Found.{Found}
 use Rattle.fold.specs.declared.Found.TheVariants.{At, Nothing}
 use Rattle.fold.proofs.BoolLaws.{and_left, and_right, and_both, or_left, or_right, fails, not-both, passes-or-fails}
 use Rattle.fold.proofs.FirstLaws.{first-at, first-is, first-none, first-nothing}
-use Rattle.layout.specs.declared.CardRow.{CardRow}
 use Rattle.layout.specs.declared.Row.{Row}
 use Rattle.layout.specs.View.{View, Settings}
 use Rattle.sides.specs.declared.Primary.{Primary}

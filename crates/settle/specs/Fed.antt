@@ -1,7 +1,7 @@
 -- What the rows that a row feeds ask of its pickup, in three numbers, so that it is found without looking at them again, but to
 -- name the first for which P4 fails. What they ask of its time depends on the pickup found, so they are gone through for that.
 -- `gathered` says what the numbers are; that settling by them is settling by section 3 is a law. Definitions only.
-use Rattle.std.specs.Prelude.{Bool, cond, ◌&&◌, ℕ, ◌+◌, ◌-◌, ◌*◌, ◌≤◌, leb, eqb}
+use Rattle.std.specs.Prelude.{Bool, cond, ◌&&◌, ℕ, ◌+◌, ◌-◌, ◌*◌, ◌≤◌, eqb}
 use Rattle.fold.specs.declared.Found.{Found}
 use Rattle.fold.specs.declared.Found.TheVariants.{Nothing}
 use Rattle.fold.specs.Fold.{sum_to, max_to}

@@ -1,6 +1,6 @@
 -- [02 §3] How the second stage of settling a row goes, by what the rows that it feeds ask one by one; that it comes to what Settle.antt says
 -- is a law. Definitions only.
-use Rattle.std.specs.Prelude.{◌≡◌, Bool, true, false, cond, ℕ, ◌+◌, leb}
+use Rattle.std.specs.Prelude.{◌≡◌, true, false, cond, ℕ, leb}
 use Rattle.curve.specs.Curve.{is_curve}
 use Rattle.fold.specs.declared.Found.{Found}
 use Rattle.fold.specs.declared.Found.TheVariants.{At, Nothing}

@@ -1,5 +1,4 @@
 -- `answers::numbers` meets its contract: each case of the answer has the numbers that `given_by` says.
-use borrow.Author.Rules.{rules}
 use mathlib.Core.Path.{sym, ap}
 use Rattle.answers.specs.Answer.{given_by}
 use Rattle.answers.proofs.numbers.Goals as goal

@@ -1,5 +1,4 @@
 -- `answers::unsettled` meets its contract: each reason has the numbers that `given_by` says.
-use borrow.Author.Rules.{rules}
 use mathlib.Core.Path.{◌≡◌, sym, ap, ◌∙◌}
 use Prim.Native.Nat.{ℕ}
 use Rattle.answers.specs.declared.Answer.TheVariants.{Unsettled}

@@ -1,9 +1,6 @@
 -- `blocks::put` meets its contract: the loop has copied the first j numbers. The measure is what is left of the block.
-use Prim.Native.Nat.{◌-◌}
 use native.Mathlib.Omega.{arith}
-use lib.ListN.{length}
-use borrow.Author.Rules.{rules}
-use Rattle.blocks.proofs.CopyLaws.{Copied, copied_none, copied_more, copied_all}
+use Rattle.blocks.proofs.CopyLaws.{copied_none, copied_more, copied_all}
 use Rattle.blocks.proofs.put.Goals as goal
 
 pub loop-j-init : goal.loop-j-init

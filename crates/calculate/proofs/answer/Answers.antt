@@ -1,5 +1,4 @@
 -- `calculate::answer` meets its contract: each return is a way in which the tests end; past both of them it is the calculation.
-use borrow.Author.Rules.{rules}
 use Rattle.calculate.proofs.AnswerLaws.{answered-size, answered-rows, work-tested, answered-worked}
 use Rattle.calculate.proofs.answer.Goals as goal
 

@@ -1,6 +1,5 @@
 -- `calculate::copy_front` meets its contract: the first n numbers are copied to the front.
 use native.Mathlib.Omega.{arith}
-use borrow.Author.Rules.{rules}
 use mathlib.Core.Path.{sym, ◌∙◌}
 use lib.Seq.{length-take-le}
 use Rattle.calculate.proofs.AllLaws.{front-pasted}

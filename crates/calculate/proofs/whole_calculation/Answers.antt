@@ -1,5 +1,4 @@
 -- `calculate::whole_calculation` meets its contract: the answer's numbers, and the card that `answer` leaves.
-use borrow.Author.Rules.{rules}
 use mathlib.Core.Path.{ap, ◌∙◌}
 use Rattle.answers.specs.Answer.{given_by}
 use Rattle.calculate.proofs.whole_calculation.Goals as goal

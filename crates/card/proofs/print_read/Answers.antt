@@ -1,5 +1,4 @@
 -- `card::print_read` meets its contract: the buffer has room for any sheet, so nothing is refused for room.
-use borrow.Author.Rules.{rules}
 use mathlib.Core.Path.{sym}
 use lib.Seq.{length-take-le}
 use Rattle.sheet.proofs.RoomLaws.{room-enough}

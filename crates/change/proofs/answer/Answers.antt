@@ -1,6 +1,5 @@
 -- `answer` is the replacement that section 4 says: sizes, EDIT, then the exchange of the row, each test ending it as it should.
 use mathlib.Core.Path.{sym, ◌∙◌}
-use borrow.Author.Rules.{rules}
 use Rattle.change.proofs.EditLaws.{edit-passed}
 use Rattle.change.proofs.EntryLaws.{answer-size, answer-edit, answer-ready, answer-exchanged}
 use Rattle.change.proofs.answer.Goals as goal

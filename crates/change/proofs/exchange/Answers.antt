@@ -2,7 +2,6 @@
 use mathlib.Core.Path.{refl}
 use native.Mathlib.Omega.{arith}
 use lib.ListN.{replicate}
-use borrow.Author.Rules.{rules}
 use Rattle.layout.specs.Counts.{field_count}
 use Rattle.change.proofs.EntryLaws.{exchange-done, exchange-refused}
 use Rattle.change.proofs.exchange.Goals as goal

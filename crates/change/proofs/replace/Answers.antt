@@ -1,6 +1,5 @@
 -- `replace` gives the answer of `answer` in section 4's numbers, with the count.
 use mathlib.Core.Path.{refl}
-use borrow.Author.Rules.{rules}
 use Rattle.path.specs.declared.HowFar.TheVariants.{Rows, Refused}
 use Rattle.change.specs.Ready.{answer_of, count_of}
 use Rattle.change.proofs.EntryLaws.{gave}

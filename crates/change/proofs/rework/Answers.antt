@@ -1,5 +1,4 @@
 -- `rework` tests list and card and works the path out, each test ending it as it should.
-use borrow.Author.Rules.{rules}
 use Rattle.change.proofs.EntryLaws.{rework-rows, rework-card, rework-ready, rework-path}
 use Rattle.change.proofs.rework.Goals as goal
 

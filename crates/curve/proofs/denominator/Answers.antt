@@ -1,5 +1,4 @@
 -- `curve::denominator` meets its contract: each return is the definition's case, and a difference that would fall below 0 is 0.
-use borrow.Author.Rules.{rules}
 use native.Mathlib.Omega.{arith}
 use native.Mathlib.Nat.{mul-le-mul}
 use borrow.Author.Tests.{eq-eqb, ne_eqb}

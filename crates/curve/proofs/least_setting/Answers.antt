@@ -1,6 +1,5 @@
 -- `curve::least_setting` meets its contract: a definite delay is its own time, no time asks no setting, and for a curve the fraction is
 -- turned over; its product fits.
-use borrow.Author.Rules.{rules}
 use native.Mathlib.Omega.{arith}
 use mathlib.Core.Path.{sym, ◌∙◌}
 use Prim.Native.Nat.{◌-◌, ◌*◌, ◌≤◌}

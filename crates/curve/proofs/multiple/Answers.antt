@@ -1,5 +1,4 @@
 -- `curve::multiple` meets its contract: the lesser of 20.000 and the quotient, which is 0 where the pickup is 0.
-use borrow.Author.Rules.{rules}
 use mathlib.Core.Path.{sym}
 use native.Mathlib.Nat.{min-eq_left, min-eq_right, div-zero, le_of_lt}
 use Rattle.curve.specs.Curve.{multiple}

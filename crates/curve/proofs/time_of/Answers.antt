@@ -1,5 +1,4 @@
 -- `curve::time_of` meets its contract: a definite delay is its own time, and a curve's is the fraction, which fits, rounded up.
-use borrow.Author.Rules.{rules}
 use mathlib.Core.Path.{sym, subst}
 use Prim.Native.Nat.{ℕ, ◌*◌, ◌<◌}
 use native.Mathlib.Nat.{lt_of_le_of_lt, le_trans, mul-le-mul}

@@ -3,7 +3,6 @@ use mathlib.Core.Path.{sym}
 use lib.ListN.{length}
 use lib.Seq.{length-take-le}
 use Rattle.diffsheet.proofs.SheetLaws.{room-for-all}
-use borrow.Author.Rules.{rules}
 use Rattle.diffcard.proofs.print_read.Goals as goal
 
 pub slice_bounds-diffsheet-end : goal.slice_bounds-diffsheet-end

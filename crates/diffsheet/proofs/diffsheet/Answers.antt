@@ -2,7 +2,6 @@
 use mathlib.Core.Path.{refl, sym, ◌∙◌}
 use Rattle.diffsheet.proofs.SheetLaws.{lines-few, no_room, bad-printed, rows-printed}
 use native.Mathlib.Omega.{arith}
-use borrow.Author.Rules.{rules}
 use Rattle.diffsheet.proofs.diffsheet.Goals as goal
 
 pub returns-then-out-lt-DIFF_MOST : goal.returns-then-out-lt-DIFF_MOST

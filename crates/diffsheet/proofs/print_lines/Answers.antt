@@ -3,7 +3,6 @@ use mathlib.Core.Path.{◌∙◌}
 use Rattle.cursor.specs.Spelt.{spelt}
 use Rattle.diffsheet.specs.Sheet.{output_header}
 use Rattle.diffsheet.proofs.SheetLaws.{lines-printed}
-use borrow.Author.Rules.{rules}
 use Rattle.diffsheet.proofs.print_lines.Goals as goal
 
 pub returns : goal.returns

@@ -1,6 +1,5 @@
 -- `diffsheet::put_given` meets its contract: the eight numbers in their order.
 use Rattle.diffsheet.specs.Sheet.{line_given}
-use borrow.Author.Rules.{rules}
 use Rattle.diffsheet.proofs.put_given.Goals as goal
 
 pub returns : goal.returns

@@ -1,7 +1,6 @@
 -- `diffsheet::read_inputs` meets its contract: the byte string is the header of the specification, and the columns are eight numbers.
 use Rattle.cursor.specs.Spelt.{spelt}
 use Rattle.diffsheet.specs.Lines.{input_header}
-use borrow.Author.Rules.{rules}
 use Rattle.diffsheet.proofs.read_inputs.Goals as goal
 
 pub returns : goal.returns

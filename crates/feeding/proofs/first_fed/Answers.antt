@@ -1,6 +1,5 @@
 -- `feeding::first_fed` meets its contract: the number it reads is the one that links promise.
 use Rattle.feeding.proofs.LinkLaws.{linked-first}
-use borrow.Author.Rules.{rules}
 use Rattle.feeding.proofs.first_fed.Goals as goal
 
 pub returns : goal.returns

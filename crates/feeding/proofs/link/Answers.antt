@@ -1,10 +1,7 @@
 -- `feeding::link` meets its contract: the loop has linked the rows from k on, and k falls to 0.
 use native.Mathlib.Omega.{arith}
 use mathlib.Core.Path.{◌≡◌, refl, ◌∙◌}
-use lib.ListN.{length}
-use Rattle.feeding.specs.Linking.{Linking}
 use Rattle.feeding.proofs.LinkLaws.{linking-none, linking-ready, linking-all}
-use borrow.Author.Rules.{rules}
 use Rattle.feeding.proofs.link.Goals as goal
 
 pub loop-k-init : goal.loop-k-init

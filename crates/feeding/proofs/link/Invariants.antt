@@ -1,10 +1,7 @@
 -- `feeding::link` meets its contract: the loop has linked the rows from k on, and k falls to 0.
-use native.Mathlib.Omega.{arith}
-use mathlib.Core.Path.{◌≡◌, refl, ◌∙◌}
+use mathlib.Core.Path.{◌≡◌}
 use lib.ListN.{length}
 use Rattle.feeding.specs.Linking.{Linking}
-use Rattle.feeding.proofs.LinkLaws.{linking-none, linking-ready, linking-all}
-use borrow.Author.Rules.{rules}
 use Rattle.feeding.proofs.link.Given as goal
 
 abbrev pub invariant-loop-k : goal.invariant-loop-k
@@ -12,4 +9,3 @@ invariant-loop-k l = (length l.links ≡ length l.initial.links) × Linking l.li
 
 abbrev pub decreases-loop-k : goal.decreases-loop-k
 decreases-loop-k l = l.k
-

@@ -2,7 +2,6 @@
 use native.Mathlib.Omega.{arith}
 use mathlib.Core.Path.{sym, ◌∙◌}
 use Rattle.feeding.proofs.LinkLaws.{linking-source, linked-row, feeder-place, number-byte}
-use borrow.Author.Rules.{rules}
 use Rattle.feeding.proofs.link_row.Goals as goal
 
 pub returns-then-feeder-eq0 : goal.returns-then-feeder-eq0

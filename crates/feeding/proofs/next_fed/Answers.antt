@@ -1,6 +1,5 @@
 -- `feeding::next_fed` meets its contract: the number it reads is the one that links promise, whichever row feeds row j.
 use Rattle.feeding.proofs.LinkLaws.{linked-next}
-use borrow.Author.Rules.{rules}
 use Rattle.feeding.proofs.next_fed.Goals as goal
 
 pub returns : goal.returns

@@ -1,8 +1,6 @@
 -- `grid::ceil_div` meets its contract: the quotient where nothing is left over, and one more otherwise, is the quotient rounded up.
-use native.Mathlib.Omega.{arith}
-use borrow.Author.Rules.{rules}
 use native.Mathlib.Nat.{pos_of_ne-zero}
-use Rattle.grid.proofs.RoundLaws.{ceil_div-by-zero, ceil_div-over, ceil_div-exact, over-fits}
+use Rattle.grid.proofs.RoundLaws.{ceil_div-by-zero, ceil_div-over, ceil_div-exact}
 use Rattle.grid.proofs.ceil_div.Goals as goal
 
 pub returns-then-d-eq0 : goal.returns-then-d-eq0

@@ -1,5 +1,4 @@
 -- `layout::in_bounds` meets its contract: a number below its least is out of bounds, any other is judged by its greatest.
-use borrow.Author.Rules.{rules}
 use borrow.Author.Tests.{lt-leb, le-leb}
 use Rattle.layout.specs.Fields.{in_bounds}
 use Rattle.layout.proofs.in_bounds.Goals as goal

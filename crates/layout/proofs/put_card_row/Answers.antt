@@ -1,5 +1,4 @@
 -- `layout::put_card_row` meets its contract: the row's columns, copied as one block, are the row that `put_card_row` puts in.
-use borrow.Author.Rules.{rules}
 use mathlib.Core.Path.{◌∙◌}
 use Rattle.blocks.proofs.BlockLaws.{pasted-sets}
 use Rattle.layout.specs.Card.{columns_of, put_card_row}

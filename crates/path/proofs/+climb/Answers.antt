@@ -1,7 +1,6 @@
 -- `climb` works out the rows that a change reaches: the row itself, then those of its feeding row. The measure is the rows left above.
 use mathlib.Core.Path.{subst}
 use native.Mathlib.Omega.{arith}
-use borrow.Author.Rules.{rules}
 use Prim.Native.Nat.{ℕ, ◌-◌, ◌<◌}
 use Rattle.layout.specs.List.{rows}
 use Rattle.path.proofs.ClimbLaws.{climb-works, climb-ready, climb-refused, climb-passes}

@@ -1,7 +1,5 @@
 -- `card_right` judges a card row by its own table: the replaced row's and that of a row without a ratio, or that of one with a ratio.
-use borrow.Author.Rules.{rules}
-use mathlib.Core.Path.{◌≡◌, sym, ◌∙◌}
-use Prim.Native.Nat.{ℕ}
+use mathlib.Core.Path.{sym, ◌∙◌}
 use Rattle.path.proofs.CardTestLaws.{lent-replaced, lent-primary, lent-secondary, judged-by}
 use Rattle.path.proofs.card_right.Goals as goal
 

@@ -1,10 +1,8 @@
 -- `first_card_wrong` finds the first card row out of range: the rows that the loop has passed are in range.
-use borrow.Author.Rules.{rules}
 use mathlib.Core.Path.{ap, sym, ◌∙◌}
 use mathlib.Core.Bool.{not}
-use Prim.Native.Nat.{◌-◌}
 use native.Mathlib.Omega.{arith}
-use Rattle.fold.proofs.FirstLaws.{Passed, passed_none, passed-more, passed-found, passed-all}
+use Rattle.fold.proofs.FirstLaws.{passed_none, passed-more, passed-found, passed-all}
 use Rattle.path.specs.CardTest.{card_right}
 use Rattle.path.proofs.first_card_wrong.Goals as goal
 
@@ -13,11 +11,11 @@ loop-j-init c = passed_none _ _
 
 pub card_right-requires : goal.card_right-requires
 card_right-requires c = record {
-      is_row = c.loop-j-test.true;
-      in-card = omega (arith, c.loop-j-test.true, c.requires);
-      unrated-is = c.column_bounds-unrated.ensures;
-      rated-is = c.column_bounds-rated.ensures;
-    }
+  is_row = c.loop-j-test.true;
+  in-card = omega (arith, c.loop-j-test.true, c.requires);
+  unrated-is = c.column_bounds-unrated.ensures;
+  rated-is = c.column_bounds-rated.ensures;
+}
 
 pub returns-then-not-card_right : goal.returns-then-not-card_right
 returns-then-not-card_right c = sym

@@ -1,10 +1,7 @@
 -- `first_card_wrong` finds the first card row out of range: the rows that the loop has passed are in range.
-use borrow.Author.Rules.{rules}
-use mathlib.Core.Path.{ap, sym, ◌∙◌}
 use mathlib.Core.Bool.{not}
 use Prim.Native.Nat.{◌-◌}
-use native.Mathlib.Omega.{arith}
-use Rattle.fold.proofs.FirstLaws.{Passed, passed_none, passed-more, passed-found, passed-all}
+use Rattle.fold.proofs.FirstLaws.{Passed}
 use Rattle.path.specs.CardTest.{card_right}
 use Rattle.path.proofs.first_card_wrong.Given as goal
 
@@ -13,4 +10,3 @@ invariant-loop-j l = Passed (λ j. not (card_right l.list l.i l.card j)) l.n l.j
 
 abbrev pub decreases-loop-j : goal.decreases-loop-j
 decreases-loop-j l = l.n - l.j
-

@@ -1,8 +1,7 @@
 -- `push_rest` counts every row off the path with the numbers found on the card. The loop's invariant is `Resting`.
 use mathlib.Core.Path.{◌∙◌}
-use Prim.Native.Nat.{◌-◌}
 use native.Mathlib.Omega.{arith}
-use Rattle.path.proofs.RestLaws.{Resting, rest-start, rest-skip, rest-ready, rest-push, rest_end}
+use Rattle.path.proofs.RestLaws.{rest-start, rest-skip, rest-ready, rest-push, rest_end}
 use Rattle.path.proofs.push_rest.Goals as goal
 use Rattle.path.proofs.push_rest.Goals.{then-j-next, else-j-next}
 
@@ -26,8 +25,8 @@ loop-j-preserved c = let a = c.requires in
     let v = c.loop-j.invariant in
     let h = c.loop-j-test.true in
     elim c.if-j-next.branch [
-      then-j-next w ↦ rest-skip _ _ _ _ a _ _ _ v h _ _ w.if-j-next.true w.sums-is (w.next-is ∙ w.above-next.ensures)
-    | else-j-next w ↦ rest-push _ _ _ _ a _ _ _ v h w.if-j-next.false _ _ (w.sums-is ∙ w.push_found.ensures) w.next-is
+      | then-j-next w ↦ rest-skip _ _ _ _ a _ _ _ v h _ _ w.if-j-next.true w.sums-is (w.next-is ∙ w.above-next.ensures)
+      | else-j-next w ↦ rest-push _ _ _ _ a _ _ _ v h w.if-j-next.false _ _ (w.sums-is ∙ w.push_found.ensures) w.next-is
     ]
 
 pub shape_of-sums : goal.shape_of-sums

@@ -1,9 +1,6 @@
 -- `push_rest` counts every row off the path with the numbers found on the card. The loop's invariant is `Resting`.
-use mathlib.Core.Logic.{⊎_elim}
-use mathlib.Core.Path.{◌∙◌}
 use Prim.Native.Nat.{◌-◌}
-use native.Mathlib.Omega.{arith}
-use Rattle.path.proofs.RestLaws.{Resting, rest-start, rest-skip, rest-ready, rest-push, rest_end}
+use Rattle.path.proofs.RestLaws.{Resting}
 use Rattle.path.proofs.push_rest.Given as goal
 
 abbrev pub invariant-loop-j : goal.invariant-loop-j
@@ -11,4 +8,3 @@ invariant-loop-j l = Resting l.list l.i l.card l.initial.sums l.sums l.next l.j
 
 abbrev pub decreases-loop-j : goal.decreases-loop-j
 decreases-loop-j l = l.n - l.j
-

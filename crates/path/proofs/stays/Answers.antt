@@ -1,7 +1,6 @@
 -- `stays` compares the row with its old one, if it is a feeding one.
 use mathlib.Core.Path.{◌≡◌, ◌∙◌, ap}
 use mathlib.Core.Bool.{Bool, true, false, ◌&&◌}
-use borrow.Author.Rules.{rules}
 use Rattle.layout.specs.declared.CardRow.{CardRow}
 use Rattle.layout.specs.Card.{card_row_at, same_card_row}
 use Rattle.path.proofs.stays.Goals as goal

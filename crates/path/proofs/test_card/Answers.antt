@@ -1,7 +1,6 @@
 -- `test_card` names the first card row out of range.
 use mathlib.Core.Path.{sym, ◌∙◌}
 use native.Mathlib.Omega.{arith}
-use borrow.Author.Rules.{rules}
 use Rattle.fold.proofs.FirstLaws.{first_below}
 use Rattle.path.proofs.CardTestLaws.{card-refuses, card-passes}
 use Rattle.path.proofs.test_card.Goals as goal

@@ -1,8 +1,6 @@
 -- `within_table` tests one card row against a table: the columns that the loop has passed are right.
 use native.Mathlib.Omega.{arith}
-use Prim.Native.Nat.{◌-◌}
-use Rattle.layout.specs.Counts.{column_count}
-use Rattle.path.proofs.CardTestLaws.{Righted, righted-none, righted-all, righted-more, righted-fails}
+use Rattle.path.proofs.CardTestLaws.{righted-none, righted-all, righted-more, righted-fails}
 use Rattle.path.proofs.within_table.Goals as goal
 
 pub loop-k-init : goal.loop-k-init

@@ -1,9 +1,7 @@
 -- `within_table` tests one card row against a table: the columns that the loop has passed are right.
-use native.Mathlib.Omega.{arith}
-use borrow.Author.Tests.{not-true, not-false}
 use Prim.Native.Nat.{◌-◌}
 use Rattle.layout.specs.Counts.{column_count}
-use Rattle.path.proofs.CardTestLaws.{Righted, righted-none, righted-all, righted-more, righted-fails}
+use Rattle.path.proofs.CardTestLaws.{Righted}
 use Rattle.path.proofs.within_table.Given as goal
 
 abbrev pub invariant-loop-k : goal.invariant-loop-k
@@ -11,4 +9,3 @@ invariant-loop-k l = Righted l.table l.card l.j l.k
 
 abbrev pub decreases-loop-k : goal.decreases-loop-k
 decreases-loop-k l = column_count - l.k
-

@@ -1,6 +1,5 @@
 -- `work_path` links the rows, begins with sums that are all 0, counts the rows off the path, and climbs.
 use native.Mathlib.Omega.{arith}
-use borrow.Author.Rules.{rules}
 use Prim.Native.Nat.{◌*◌}
 use Rattle.layout.specs.Counts.{rows_most}
 use Rattle.rows.proofs.InRangeLaws.{passed-feeds}
@@ -31,7 +30,7 @@ push_rest-requires c = let a = c.requires in
 
 pub climb-requires : goal.climb-requires
 climb-requires c = record {
-      is_row = c.requires.rework.is_row;
-      linked = c.link.ensures;
-      working = c.push_rest.ensures;
-    }
+  is_row = c.requires.rework.is_row;
+  linked = c.link.ensures;
+  working = c.push_rest.ensures;
+}

@@ -1,6 +1,5 @@
 -- `rows::fault_by` meets its contract: the first field that is not right is in the first part, or in the second; then their order is judged.
 use native.Mathlib.Omega.{arith}
-use borrow.Author.Rules.{rules}
 use mathlib.Core.Path.{sym, ◌∙◌}
 use Rattle.layout.specs.Counts.{field_count}
 use borrow.Author.Tests.{not-false}

@@ -1,5 +1,4 @@
 -- `rows::feeds_right` meets its contract: each return is a way in which a row's feeder is judged.
-use borrow.Author.Rules.{rules}
 use Rattle.rows.proofs.TestLaws.{feeds-last, feeds-below, feeds-above, feeds-by}
 use Rattle.rows.proofs.feeds_right.Goals as goal
 

@@ -1,7 +1,5 @@
 -- `rows::field_right` meets its contract: each return is a way in which a field is judged.
 use native.Mathlib.Omega.{arith}
-use borrow.Author.Rules.{rules}
-use borrow.Author.Tests.{not-true, not-false}
 use mathlib.Core.Path.{ap}
 use lib.ListN.{length}
 use Rattle.rows.proofs.FieldLaws.{right-out, right-own, right-rating, right-other}

@@ -2,9 +2,7 @@
 use native.Mathlib.Omega.{arith}
 use mathlib.Core.Bool.{not}
 use mathlib.Core.Path.{sym, ap, ◌∙◌}
-use Prim.Native.Nat.{◌-◌}
-use Rattle.fold.proofs.FirstLaws.{Passed, passed_none, passed-more, passed-found, passed-all}
-use Rattle.rows.specs.Tests.{fed_wrongly}
+use Rattle.fold.proofs.FirstLaws.{passed_none, passed-more, passed-found, passed-all}
 use Rattle.rows.proofs.first_fed_wrongly.Goals as goal
 
 pub loop-i-init : goal.loop-i-init

@@ -1,9 +1,7 @@
 -- `rows::first_wrong` meets its contract: the loop has passed fields that are right, so the first that is left is the first of all.
 use native.Mathlib.Omega.{arith}
 use mathlib.Core.Bool.{not}
-use mathlib.Core.Path.{◌≡◌, refl, sym, ap, ◌∙◌}
-use Prim.Native.Nat.{◌-◌, ◌≤◌}
-use Rattle.fold.specs.First.{first}
+use mathlib.Core.Path.{refl, sym, ap, ◌∙◌}
 use Rattle.fold.proofs.FirstLaws.{first-step-true, first-step-false, first-end}
 use Rattle.rows.specs.Tests.{field_wrong}
 use Rattle.rows.proofs.first_wrong.Goals as goal
@@ -27,10 +25,10 @@ loop-k-smaller c = omega arith
 
 pub loop-k-preserved : goal.loop-k-preserved
 loop-k-preserved c = (
-      omega (arith, c.loop-k-test.true),
-      c.loop-k.invariant.1 ∙
-          first-step-false (field_wrong _ _) _ _ c.loop-k-test.true (ap not (sym c.field_right.ensures ∙ c.if-not-field_right.false)),
-    )
+  omega (arith, c.loop-k-test.true),
+  c.loop-k.invariant.1 ∙
+      first-step-false (field_wrong _ _) _ _ c.loop-k-test.true (ap not (sym c.field_right.ensures ∙ c.if-not-field_right.false)),
+)
 
 pub returns : goal.returns
 returns c = sym (c.loop-k.invariant.1 ∙ first-end (field_wrong _ _) _ _ c.loop-k-test.false)

@@ -1,10 +1,7 @@
 -- `rows::first_wrong` meets its contract: the loop has passed fields that are right, so the first that is left is the first of all.
-use native.Mathlib.Omega.{arith}
-use mathlib.Core.Bool.{not}
-use mathlib.Core.Path.{◌≡◌, refl, sym, ap, ◌∙◌}
+use mathlib.Core.Path.{◌≡◌}
 use Prim.Native.Nat.{◌-◌, ◌≤◌}
 use Rattle.fold.specs.First.{first}
-use Rattle.fold.proofs.FirstLaws.{first-step-true, first-step-false, first-end}
 use Rattle.rows.specs.Tests.{field_wrong}
 use Rattle.rows.proofs.first_wrong.Given as goal
 
@@ -13,4 +10,3 @@ invariant-loop-k l = (l.k ≤ l.to) × (first (field_wrong l.list l.i) l.from (l
 
 abbrev pub decreases-loop-k : goal.decreases-loop-k
 decreases-loop-k l = l.to - l.k
-

@@ -1,5 +1,4 @@
 -- `rows::high_right` meets its contract: the test is the request's, multiplied out, and the products fit.
-use borrow.Author.Rules.{rules}
 use mathlib.Core.Path.{refl}
 use native.Mathlib.Nat.{lt_of_le_of_lt, mul-le-mul}
 use lib.Dec.{lit<}

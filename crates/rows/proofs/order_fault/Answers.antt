@@ -1,9 +1,7 @@
 -- `rows::order_fault` meets its contract: each return is a way in which the order of the fields is judged; the product fits, as the fields
 -- are in range.
-use borrow.Author.Rules.{rules}
 use native.Mathlib.Omega.{arith}
-use borrow.Author.Tests.{not-true}
-use mathlib.Core.Path.{◌≡◌, sym, ◌∙◌}
+use mathlib.Core.Path.{◌≡◌}
 use mathlib.Core.List.{List}
 use Prim.Native.Nat.{ℕ, ◌≤◌, ◌<◌}
 use Rattle.layout.specs.Counts.{field_count}

@@ -1,6 +1,5 @@
 -- `rows::plain_fault` meets its contract: the first field that is not right is in the first part, or in the second; then low and high are compared.
 use native.Mathlib.Omega.{arith}
-use borrow.Author.Rules.{rules}
 use mathlib.Core.Path.{sym, ◌∙◌}
 use Rattle.fold.proofs.FirstLaws.{first-at}
 use Rattle.rows.proofs.TestLaws.{wrong-before, wrong-behind, none-wrong, fault-found, fault-after}

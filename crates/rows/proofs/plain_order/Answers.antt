@@ -1,5 +1,4 @@
 -- `rows::plain_order` meets its contract: without a ratio only low and high are compared.
-use borrow.Author.Rules.{rules}
 use Rattle.rows.proofs.TestLaws.{order-low, plain-right}
 use Rattle.rows.proofs.plain_order.Goals as goal
 

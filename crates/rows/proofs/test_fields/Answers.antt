@@ -1,9 +1,6 @@
 -- `rows::test_fields` meets its contract: the loop has passed rows without fault, so the first at fault is the first of all.
 use native.Mathlib.Omega.{arith}
-use borrow.Author.Rules.{rules}
-use Prim.Native.Nat.{◌-◌}
-use Rattle.fold.proofs.FirstLaws.{Passed, passed_none, passed-more, passed-found, passed-all}
-use Rattle.rows.specs.Tests.{row_at_fault}
+use Rattle.fold.proofs.FirstLaws.{passed_none, passed-more, passed-found, passed-all}
 use Rattle.rows.proofs.TestLaws.{row-wrong, row-right, fields-found, fields-none}
 use Rattle.rows.proofs.test_fields.Goals as goal
 

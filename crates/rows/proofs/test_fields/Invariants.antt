@@ -1,10 +1,7 @@
 -- `rows::test_fields` meets its contract: the loop has passed rows without fault, so the first at fault is the first of all.
-use native.Mathlib.Omega.{arith}
-use borrow.Author.Rules.{rules}
 use Prim.Native.Nat.{◌-◌}
-use Rattle.fold.proofs.FirstLaws.{Passed, passed_none, passed-more, passed-found, passed-all}
+use Rattle.fold.proofs.FirstLaws.{Passed}
 use Rattle.rows.specs.Tests.{row_at_fault}
-use Rattle.rows.proofs.TestLaws.{row-wrong, row-right, fields-found, fields-none}
 use Rattle.rows.proofs.test_fields.Given as goal
 
 abbrev pub invariant-loop-i : goal.invariant-loop-i
@@ -12,4 +9,3 @@ invariant-loop-i l = Passed (row_at_fault l.list) l.n l.i
 
 abbrev pub decreases-loop-i : goal.decreases-loop-i
 decreases-loop-i l = l.n - l.i
-

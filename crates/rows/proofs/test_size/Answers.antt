@@ -1,6 +1,5 @@
 -- `rows::test_size` meets its contract: each return is a way in which the sizes are judged.
 use native.Mathlib.Omega.{arith}
-use borrow.Author.Rules.{rules}
 use Rattle.rows.proofs.TestLaws.{size-ragged, size_none, size-over, size-short, size-right}
 use Rattle.rows.proofs.test_size.Goals as goal
 

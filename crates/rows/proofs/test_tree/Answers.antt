@@ -1,6 +1,5 @@
 -- `rows::test_tree` meets its contract: the first row fed wrongly decides.
 use native.Mathlib.Omega.{arith}
-use borrow.Author.Rules.{rules}
 use mathlib.Core.Path.{sym, ◌∙◌}
 use Rattle.fold.proofs.FirstLaws.{first_below}
 use Rattle.rows.proofs.TestLaws.{tree-found, tree-none}

@@ -1,5 +1,4 @@
 -- `rowwise::join` meets its contract: each number is the sum or the greater of the two.
-use borrow.Author.Rules.{rules}
 use Rattle.rowwise.proofs.join.Goals as goal
 
 pub returns : goal.returns

@@ -1,6 +1,5 @@
 -- `rowwise::push` meets its contract: the feeder's three numbers are read in the sums, joined with what the row asks of it, and put back.
 use native.Mathlib.Omega.{arith}
-use borrow.Author.Rules.{rules}
 use native.Mathlib.Nat.{pos_of_ne-zero}
 use mathlib.Core.Path.{◌∙◌, ap}
 use Rattle.settle.specs.declared.Fed.{Fed}

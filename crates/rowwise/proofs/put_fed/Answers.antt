@@ -1,5 +1,4 @@
 -- `rowwise::put_fed` meets its contract: the three numbers, copied as one block, are those that `put_fed` puts in.
-use borrow.Author.Rules.{rules}
 use mathlib.Core.Path.{◌∙◌}
 use Rattle.blocks.proofs.BlockLaws.{pasted-sets}
 use Rattle.rowwise.specs.Sums.{asks_of, put_fed}

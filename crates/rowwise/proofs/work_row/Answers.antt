@@ -1,6 +1,5 @@
 -- `rowwise::work_row` meets its contract: the row is settled by its three numbers and the card; a refusal touches nothing, and an outcome goes to
 -- the card and to the sums.
-use borrow.Author.Rules.{rules}
 use native.Mathlib.Omega.{arith}
 use Rattle.layout.specs.declared.Row.{Row}
 use Rattle.rowwise.specs.Ready.{HasFeeder}
@@ -22,14 +21,14 @@ row_at-r-requires c = let a = c.requires in (omega (arith, a.is_row), a.all-boun
 
 pub settle-requires : goal.settle-requires
 settle-requires c = let a = c.requires in (
-      record {
-        is_row = a.is_row;
-        all-bounded = a.all-bounded;
-        bounded = subst Bounded (sym c.row_at-r.ensures) (a.all-bounded _ a.is_row);
-      },
-      subst FedBounded (sym c.fed_at.ensures) a.fed-bounded,
-      a.fed-ready,
-    )
+  record {
+    is_row = a.is_row;
+    all-bounded = a.all-bounded;
+    bounded = subst Bounded (sym c.row_at-r.ensures) (a.all-bounded _ a.is_row);
+  },
+  subst FedBounded (sym c.fed_at.ensures) a.fed-bounded,
+  a.fed-ready,
+)
 
 pub put_card_row-requires : goal.put_card_row-requires
 put_card_row-requires c = c.requires.in-card

@@ -1,9 +1,7 @@
 -- `rowwise::work_rows` meets its contract: the rows below i are worked out and none of them was refused.
 use native.Mathlib.Omega.{arith}
-use borrow.Author.Rules.{rules}
 use mathlib.Core.Path.{◌∙◌}
-use Prim.Native.Nat.{◌-◌}
-use Rattle.rowwise.proofs.StepsLaws.{Stepping, stepping-start, stepping-ready, stepping-refused, stepping-next, stepping-end}
+use Rattle.rowwise.proofs.StepsLaws.{stepping-start, stepping-ready, stepping-refused, stepping-next, stepping-end}
 use Rattle.rowwise.proofs.work_rows.Goals as goal
 
 pub loop-i-init : goal.loop-i-init

@@ -1,9 +1,6 @@
 -- `rowwise::work_rows` meets its contract: the rows below i are worked out and none of them was refused.
-use native.Mathlib.Omega.{arith}
-use borrow.Author.Rules.{rules}
-use mathlib.Core.Path.{◌∙◌}
 use Prim.Native.Nat.{◌-◌}
-use Rattle.rowwise.proofs.StepsLaws.{Stepping, stepping-start, stepping-ready, stepping-refused, stepping-next, stepping-end}
+use Rattle.rowwise.proofs.StepsLaws.{Stepping}
 use Rattle.rowwise.proofs.work_rows.Given as goal
 
 abbrev pub invariant-loop-i : goal.invariant-loop-i
@@ -11,4 +8,3 @@ invariant-loop-i l = Stepping l.list l.from l.to l.initial.card l.initial.sums l
 
 abbrev pub decreases-loop-i : goal.decreases-loop-i
 decreases-loop-i l = l.to - l.i
-

@@ -1,9 +1,8 @@
 -- `settle::asks` meets its contract: the products fit, since a primary current times volts stays below REACH, and a lent pickup's a
 -- hundred times above; each number is the definition's.
 use native.Mathlib.Omega.{arith}
-use borrow.Author.Rules.{rules}
 use mathlib.Core.Path.{◌≡◌, sym, subst}
-use Prim.Native.Nat.{ℕ, ◌*◌, ◌≤◌}
+use Prim.Native.Nat.{◌*◌, ◌≤◌}
 use native.Mathlib.Nat.{lt_of_le_of_lt, mul-le-mul}
 use lib.Dec.{lit<}
 use Rattle.layout.specs.declared.CardRow.{CardRow}

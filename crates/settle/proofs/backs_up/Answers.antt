@@ -1,5 +1,4 @@
 -- `settle::backs_up` meets its contract: a row that is not backed asks nothing; for one that is, the test is P4, multiplied out.
-use borrow.Author.Rules.{rules}
 use native.Mathlib.Nat.{lt_of_le_of_lt, mul-le-mul, mul-le-mul_left}
 use lib.Dec.{lit<}
 use borrow.Author.Tests.{eq-eqb, ne_eqb}

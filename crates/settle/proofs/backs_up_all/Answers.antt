@@ -1,5 +1,4 @@
 -- `settle::backs_up_all` meets its contract: the test is P4 for the greatest shortfall, multiplied out.
-use borrow.Author.Rules.{rules}
 use mathlib.Core.Path.{refl}
 use native.Mathlib.Nat.{lt_of_le_of_lt, mul-le-mul, mul-le-mul_left}
 use lib.Dec.{lit<}

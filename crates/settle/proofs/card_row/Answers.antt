@@ -1,11 +1,8 @@
 -- `settle::card_row` meets its contract: the cutoff is shown as `printed` has it, and the setting by the law.
-use borrow.Author.Rules.{rules}
-use mathlib.Core.Path.{◌≡◌, sym}
-use Rattle.layout.specs.declared.CardRow.{CardRow}
+use mathlib.Core.Path.{◌≡◌}
 use Rattle.settle.specs.declared.Outcome.{Outcome}
 use Rattle.settle.specs.Settle.{printed, shown}
 use Rattle.sides.specs.declared.Secondary.{Secondary}
-use Rattle.sides.specs.Sides.{keyed}
 use Rattle.settle.proofs.TimeLaws.{is-curve, no-curve}
 use Rattle.settle.proofs.card_row.Goals as goal
 

@@ -1,5 +1,4 @@
 -- `settle::cutoff_at` meets its contract: the least value from the bound on is the least that stays clear; then its sensitivity decides.
-use borrow.Author.Rules.{rules}
 use mathlib.Core.Path.{◌≡◌, sym, ◌∙◌, ap, subst}
 use mathlib.Core.Bool.{Bool}
 use Prim.Native.Nat.{ℕ}
@@ -23,11 +22,11 @@ in_primary-requires c = (c.requires.rated, found-bounded c.args.r c.requires _ _
 
 pub sees_near-requires : goal.sees_near-requires
 sees_near-requires c = (
-      c.requires,
-      subst PrimaryBounded (sym c.in_primary.ensures)
-          (found-fits c.args.r c.requires _
-          (found-bounded c.args.r c.requires _ _ (sym c.least_offered.ensures ∙ c.in-At.is))),
-    )
+  c.requires,
+  subst PrimaryBounded (sym c.in_primary.ensures)
+      (found-fits c.args.r c.requires _
+      (found-bounded c.args.r c.requires _ _ (sym c.least_offered.ensures ∙ c.in-At.is))),
+)
 
 pub returns-then-sees_near : goal.returns-then-sees_near
 returns-then-sees_near c = let r = c.args.r in

@@ -1,5 +1,4 @@
 -- `settle::cutoff_from` meets its contract: the bound is the inequality's, in primary.
-use borrow.Author.Rules.{rules}
 use native.Mathlib.Omega.{arith}
 use native.Mathlib.Nat.{lt_of_le_of_lt, mul-le-mul}
 use lib.Dec.{lit<}

@@ -2,10 +2,8 @@
 -- left is the first of all.
 use native.Mathlib.Omega.{arith}
 use mathlib.Core.Path.{sym, ◌∙◌}
-use Prim.Native.Nat.{◌-◌}
-use Rattle.fold.proofs.FirstLaws.{Passed, passed_none, passed-more, passed-found, passed-all}
-use Rattle.layout.specs.View.{view_of}
-use Rattle.settle.specs.Settle.{unbacked, first_unbacked}
+use Rattle.fold.proofs.FirstLaws.{passed_none, passed-more, passed-found, passed-all}
+use Rattle.settle.specs.Settle.{first_unbacked}
 use Rattle.settle.proofs.first_unbacked.Goals as goal
 
 pub loop-j-init : goal.loop-j-init

@@ -1,5 +1,4 @@
 -- `settle::is_unbacked` meets its contract: row j is read, and passed over where another row feeds it.
-use borrow.Author.Rules.{rules}
 use native.Mathlib.Omega.{arith}
 use Rattle.sides.specs.declared.Primary.{Primary}
 use mathlib.Core.Path.{◌≡◌, sym, subst}

@@ -1,6 +1,5 @@
 -- `settle::judge` meets its contract: P3 is tested first; then the sums say whether P4 fails for some fed row, and the first is looked for.
 use native.Mathlib.Omega.{arith}
-use borrow.Author.Rules.{rules}
 use mathlib.Core.Path.{◌≡◌, sym, ◌∙◌, subst}
 use Prim.Native.Nat.{◌≤◌}
 use Rattle.layout.specs.declared.Row.{Row}

@@ -1,5 +1,4 @@
 -- `settle::pick` meets its contract: P1 and P2 hold exactly from the bound on, so the least value from there on is judged.
-use borrow.Author.Rules.{rules}
 use mathlib.Core.Path.{sym, ◌∙◌}
 use Rattle.settle.proofs.OutcomeLaws.{pick-none, pick-judged}
 use Rattle.settle.proofs.PickupLaws.{found-bounded}

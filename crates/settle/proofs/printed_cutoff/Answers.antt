@@ -1,5 +1,4 @@
 -- `settle::printed_cutoff` meets its contract: each case is `printed` of that case.
-use borrow.Author.Rules.{rules}
 use mathlib.Core.Path.{sym, ap}
 use Rattle.settle.specs.Settle.{printed}
 use Rattle.settle.proofs.printed_cutoff.Goals as goal

@@ -1,6 +1,5 @@
 -- `settle::sees_near` meets its contract: the factor is the kind's, and the test is the document's.
 use native.Mathlib.Omega.{arith}
-use borrow.Author.Rules.{rules}
 use mathlib.Core.Path.{◌∙◌}
 use borrow.Author.Tests.{eq-eqb, ne_eqb}
 use Rattle.settle.proofs.OutcomeLaws.{sees-near-is}
@@ -14,6 +13,6 @@ overflow_mul-result c =
 pub returns : goal.returns
 returns c =
     elim c.if-r-eq1.branch [
-      then-r-eq1 w ↦ sees-near-is _ _ _ (w.factor-is ∙ rw (eq-eqb _ 1 w.if-r-eq1.true))
-    | else-r-eq1 w ↦ sees-near-is _ _ _ (w.factor-is ∙ rw (ne_eqb _ 1 w.if-r-eq1.false))
+      | then-r-eq1 w ↦ sees-near-is _ _ _ (w.factor-is ∙ rw (eq-eqb _ 1 w.if-r-eq1.true))
+      | else-r-eq1 w ↦ sees-near-is _ _ _ (w.factor-is ∙ rw (ne_eqb _ 1 w.if-r-eq1.false))
     ]

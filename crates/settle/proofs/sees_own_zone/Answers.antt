@@ -1,5 +1,4 @@
 -- `settle::sees_own_zone` meets its contract: the test is P3, multiplied out.
-use borrow.Author.Rules.{rules}
 use mathlib.Core.Path.{refl}
 use Rattle.settle.specs.Conditions.{sees_own_zone}
 use Rattle.settle.proofs.sees_own_zone.Goals as goal

@@ -1,12 +1,10 @@
 -- `settle::settle` meets its contract: the pickup, or the cause that there is none; then the second stage at that pickup.
-use borrow.Author.Rules.{rules}
 use mathlib.Core.Path.{◌≡◌, sym, ap, ◌∙◌, subst}
 use Prim.Native.Nat.{ℕ}
 use Rattle.layout.specs.declared.Row.{Row}
 use Rattle.layout.specs.Card.{card_row_at}
 use Rattle.layout.specs.View.{view_of}
 use Rattle.settle.specs.declared.Cutoff.{Cutoff}
-use Rattle.settle.specs.declared.Settled.{Settled}
 use Rattle.settle.specs.declared.Settled.TheVariants.{Set}
 use Rattle.settle.specs.declared.Timed.{Timed}
 use Rattle.settle.specs.declared.Timed.TheVariants.{Setting}
@@ -40,11 +38,11 @@ in_primary-requires c = let a = c.requires in
 
 pub time_row-requires : goal.time_row-requires
 time_row-requires c = let a = c.requires in (
-      a.0,
-      subst PrimaryBounded (sym c.in_primary.ensures)
-          (found-fits _ a.0.bounded _ (picked-to _ _ _ _ a.0.bounded _ (sym c.pick.ensures ∙ c.in-Fits.is))),
-      a.2,
-    )
+  a.0,
+  subst PrimaryBounded (sym c.in_primary.ensures)
+      (found-fits _ a.0.bounded _ (picked-to _ _ _ _ a.0.bounded _ (sym c.pick.ensures ∙ c.in-Fits.is))),
+  a.2,
+)
 
 pub returns-in-Unfit : goal.returns-in-Unfit
 returns-in-Unfit c = no-pickup _ _ _ _ _ _ (sym c.pick.ensures ∙ c.in-Unfit.is)

@@ -1,6 +1,5 @@
 -- `sheet::print_rows` meets its contract: over 256 rows is COUNT; otherwise the numbers read are the list that is calculated, and the
 -- names' places lie inside the text.
-use borrow.Author.Rules.{rules}
 use Rattle.sheet.specs.Sheet.{blank_card}
 use Rattle.sheet.proofs.SheetLaws.{part-long, card-filled, refusal-filled, many-filled}
 use Rattle.sheet.proofs.print_rows.Goals as goal

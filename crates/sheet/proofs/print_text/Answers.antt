@@ -1,5 +1,4 @@
 -- `sheet::print_text` meets its contract: a bad line gives its refusal, and the rows read what `print_rows` prints.
-use borrow.Author.Rules.{rules}
 use mathlib.Core.Path.{sym, ◌∙◌}
 use Rattle.sheet.proofs.SheetLaws.{bad-filled}
 use Rattle.sheet.proofs.print_text.Goals as goal

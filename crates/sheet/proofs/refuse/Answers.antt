@@ -1,5 +1,4 @@
 -- `sheet::refuse` meets its contract: there is room for any refusal.
-use borrow.Author.Rules.{rules}
 use Rattle.sheet.proofs.SheetLaws.{refused-filled}
 use Rattle.sheet.proofs.refuse.Goals as goal
 

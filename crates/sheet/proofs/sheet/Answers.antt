@@ -1,5 +1,4 @@
 -- `sheet::sheet` meets its contract: what `print_text` printed aside is copied where it fits, and otherwise nothing is.
-use borrow.Author.Rules.{rules}
 use native.Mathlib.Omega.{arith}
 use mathlib.Core.Path.{sym, ap, ◌∙◌}
 use lib.ListN.{length}

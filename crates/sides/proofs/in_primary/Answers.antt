@@ -1,5 +1,4 @@
 -- `sides::in_primary` meets its contract: the product is the definition's, and it fits.
-use borrow.Author.Rules.{rules}
 use native.Mathlib.Omega.{arith}
 use mathlib.Core.Path.{sym, subst}
 use Prim.Native.Nat.{ℕ, ◌*◌, ◌<◌}
@@ -16,10 +15,10 @@ returns-then-q-eq0 c = sym (stays-primary c.args.q c.if-q-eq0.true c.args.x)
 
 pub overflow_mul-result-2 : goal.overflow_mul-result-2
 overflow_mul-result-2 c = record {
-      fits =
-          subst (λ (k : ℕ). c.args.x.0 * k < 18446744073709551616) (sym c.scale.ensures)
-          (lt_of_le_of_lt (primary-fits c.args.q c.requires.0 c.args.x c.requires.1) (lit< tt));
-    }
+  fits =
+      subst (λ (k : ℕ). c.args.x.0 * k < 18446744073709551616) (sym c.scale.ensures)
+      (lt_of_le_of_lt (primary-fits c.args.q c.requires.0 c.args.x c.requires.1) (lit< tt));
+}
 
 pub returns : goal.returns
 returns c = rw c.scale.ensures

@@ -1,5 +1,4 @@
 -- `sides::least_keyed` meets its contract: a bound rounded up on the relay's scale says the same as the inequality in primary.
-use borrow.Author.Rules.{rules}
 use native.Mathlib.Nat.{lt_of_le_of_lt, mul-le-mul}
 use lib.Dec.{lit<}
 use mathlib.Core.Path.{sym, ap, ◌∙◌, subst}
@@ -15,10 +14,10 @@ returns-then-q-eq0 c = let a = c.args in
 
 pub overflow_mul-d : goal.overflow_mul-d
 overflow_mul-d c = record {
-      fits =
-          subst (λ (k : ℕ). c.args.d * k < 18446744073709551616) (sym c.scale.ensures)
-          (lt_of_le_of_lt (mul-le-mul c.requires.3 (scale-to c.args.q c.requires.0)) (lit< tt));
-    }
+  fits =
+      subst (λ (k : ℕ). c.args.d * k < 18446744073709551616) (sym c.scale.ensures)
+      (lt_of_le_of_lt (mul-le-mul c.requires.3 (scale-to c.args.q c.requires.0)) (lit< tt));
+}
 
 pub returns : goal.returns
 returns c = let a = c.args in

@@ -1,5 +1,4 @@
 -- `sides::scale` meets its contract: each return is the ratio's case.
-use borrow.Author.Rules.{rules}
 use mathlib.Core.Path.{sym}
 use Rattle.sides.proofs.SidesLaws.{scale-none, scale_one, scale-other}
 use Rattle.sides.proofs.scale.Goals as goal

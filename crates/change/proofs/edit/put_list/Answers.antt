@@ -1,5 +1,4 @@
 -- `change::edit::put_list` meets its contract: the row is copied into its place.
-use borrow.Author.Rules.{rules}
 use mathlib.Core.Path.{◌∙◌}
 use Rattle.change.proofs.PutLaws.{put-pasted}
 use Rattle.change.proofs.edit.put_list.Goals as goal

@@ -1,7 +1,6 @@
 -- `test_edit` lets a place and a row pass exactly as EDIT says: each return has the test that failed.
 use mathlib.Core.Path.{sym, ◌∙◌}
 use native.Mathlib.Omega.{arith}
-use borrow.Author.Rules.{rules}
 use Rattle.change.proofs.EditLaws.{edit-passes, edit-refuses}
 use Rattle.change.proofs.edit.test_edit.Goals as goal
 

@@ -1,6 +1,5 @@
 -- `settle::times::ask_curve` meets its contract: the fed row's time or that it is slow, then row i's M there, then the least setting for that time
 -- and the larger step.
-use borrow.Author.Rules.{rules}
 use mathlib.Core.Path.{◌≡◌, sym, ap, ap₂, ◌∙◌, subst}
 use Prim.Native.Nat.{ℕ, ◌+◌, ◌≤◌}
 use native.Mathlib.Omega.{arith}
@@ -61,11 +60,11 @@ returns-then-stalls c = stuck-own _ _ _ _ _ _ _ _
 
 pub overflow_add-t : goal.overflow_add-t
 overflow_add-t c = omega (
-      arith,
-      margin-fits (goal.at.overflow_add-t c).After-margin_between,
-      takes-to _ _ _ c.requires.settings-to
-          (time-read _ _ _ _ c.row_at-f.ensures c.card_row_at.ensures _ _ c.fed_time.ensures c.in-Takes.is),
-    )
+  arith,
+  margin-fits (goal.at.overflow_add-t c).After-margin_between,
+  takes-to _ _ _ c.requires.settings-to
+      (time-read _ _ _ _ c.row_at-f.ensures c.card_row_at.ensures _ _ c.fed_time.ensures c.in-Takes.is),
+)
 
 pub least_setting-requires : goal.least_setting-requires
 least_setting-requires c = let to = takes-to _ _ _ c.requires.settings-to

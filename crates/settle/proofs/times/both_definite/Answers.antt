@@ -1,7 +1,4 @@
 -- `settle::times::both_definite` meets its contract: the second is looked at only where the first is 0.
-use mathlib.Core.Path.{ap}
-use mathlib.Core.Bool.{Bool, ◌&&◌}
-use lib.Dec.{eqb}
 use borrow.Author.Tests.{eq-eqb, ne_eqb}
 use Rattle.settle.proofs.times.both_definite.Goals as goal
 

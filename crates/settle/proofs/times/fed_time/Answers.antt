@@ -1,15 +1,8 @@
 -- `settle::times::fed_time` meets its contract: the M that its law needs, then the time, by the card row.
-use borrow.Author.Rules.{rules}
-use mathlib.Core.Path.{◌≡◌, sym, ◌∙◌, subst}
+use mathlib.Core.Path.{sym, ◌∙◌, subst}
 use Prim.Native.Nat.{ℕ, ◌≤◌}
 use Rattle.curve.specs.Curve.{setting_to}
-use Rattle.layout.specs.declared.CardRow.{CardRow}
-use Rattle.layout.specs.declared.Row.{Row}
-use Rattle.layout.specs.Range.{Bounded}
-use Rattle.sides.specs.declared.Primary.{Primary}
-use Rattle.settle.specs.Conditions.{primary_of, setting_of}
-use Rattle.settle.specs.Fed.{PrimaryBounded, CardBounded}
-use Rattle.settle.specs.Times.{needed_multiple}
+use Rattle.settle.specs.Fed.{PrimaryBounded}
 use Rattle.settle.proofs.PickupLaws.{found-fits}
 use Rattle.settle.proofs.StageLaws.{fed-slow, fed-takes}
 use Rattle.settle.proofs.TimeLaws.{needed-to}

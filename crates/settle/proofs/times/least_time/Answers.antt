@@ -1,7 +1,6 @@
 -- `settle::times::least_time` meets its contract: D1 from below joins the bound; the least value from there on is tested against the ceiling,
 -- and where it is over it, so is every greater one.
-use borrow.Author.Rules.{rules}
-use mathlib.Core.Path.{◌≡◌, sym, ap, ap₂, ◌∙◌, subst}
+use mathlib.Core.Path.{◌≡◌, sym, ap, ◌∙◌}
 use mathlib.Core.Bool.{Bool, true, false, cond, ◌&&◌}
 use Prim.Native.Nat.{ℕ, ◌≤◌, ◌<◌, max}
 use native.Mathlib.Nat.{le_trans}
@@ -68,8 +67,8 @@ wanted-to r motor a want em ew = omega (arith, ew, em, by_kind (eqb r.kind 3), a
 joined_is : (c : Joined-r-eq3) → c.if-r-eq3.motor ≡ cond (eqb c.args.r.kind 3) 100 0
 joined_is c =
     elim c.if-r-eq3.branch [
-      then-r-eq3 w ↦ w.motor-is ∙ rw (eq-eqb _ 3 w.if-r-eq3.true)
-    | else-r-eq3 w ↦ w.motor-is ∙ rw (ne_eqb _ 3 w.if-r-eq3.false)
+      | then-r-eq3 w ↦ w.motor-is ∙ rw (eq-eqb _ 3 w.if-r-eq3.true)
+      | else-r-eq3 w ↦ w.motor-is ∙ rw (ne_eqb _ 3 w.if-r-eq3.false)
     ]
 
 pub least_setting-own-requires : goal.least_setting-own-requires
@@ -78,11 +77,11 @@ least_setting-own-requires c = let a = c.requires in
 
 pub time_of-requires : goal.time_of-requires
 time_of-requires c = let a = c.requires in (
-      a.1,
-      within-to _ _ _ _ _ _ _ _ _ _ (joined_is (goal.at.time_of-requires c).Joined-r-eq3) c.greater.ensures c.least_setting-own.ensures
-          c.tried_from.ensures c.tried_to.ensures c.greater-2.ensures
-          c.least_on.ensures a.0 _ c.in-At.is,
-    )
+  a.1,
+  within-to _ _ _ _ _ _ _ _ _ _ (joined_is (goal.at.time_of-requires c).Joined-r-eq3) c.greater.ensures c.least_setting-own.ensures
+      c.tried_from.ensures c.tried_to.ensures c.greater-2.ensures
+      c.least_on.ensures a.0 _ c.in-At.is,
+)
 
 pub returns-in-Nothing : goal.returns-in-Nothing
 returns-in-Nothing c = none _ _ _ _ _ _ _ _ _ _ (joined_is (goal.at.returns-in-Nothing c).Joined-r-eq3) c.greater.ensures c.least_setting-own.ensures

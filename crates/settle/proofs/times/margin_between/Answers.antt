@@ -1,5 +1,4 @@
 -- `settle::times::margin_between` meets its contract: it is the greater of the two devices' margins.
-use borrow.Author.Rules.{rules}
 use mathlib.Core.Path.{◌∙◌, ap₂}
 use Prim.Native.Nat.{max}
 use Rattle.settle.specs.Conditions.{margin_between}

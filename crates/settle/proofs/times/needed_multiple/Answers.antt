@@ -1,5 +1,4 @@
 -- `settle::times::needed_multiple` meets its contract: a definite row needs none; the products of another's fit, a primary current times volts.
-use borrow.Author.Rules.{rules}
 use native.Mathlib.Nat.{lt_of_le_of_lt, le_trans, mul-le-mul}
 use lib.Dec.{lit<, lit≤}
 use Rattle.settle.specs.Conditions.{multiple_at}

@@ -1,6 +1,5 @@
 -- `settle::times::time_row` meets its contract: the row's own M first, then the fed rows', then the least setting from what they ask on.
-use borrow.Author.Rules.{rules}
-use mathlib.Core.Path.{◌≡◌, sym, ◌∙◌, subst}
+use mathlib.Core.Path.{sym, ◌∙◌, subst}
 use Prim.Native.Nat.{ℕ, ◌≤◌}
 use Rattle.settle.specs.Times.{WalkIs}
 use Rattle.settle.proofs.StageLaws.{row-stalls, row-stuck, row-none, row-set}
@@ -15,10 +14,10 @@ returns-then-stalls c = row-stalls _ _ _ _ _ _ c.needed_multiple-m.ensures (sym 
 
 pub least_time-requires : goal.least_time-requires
 least_time-requires c = (
-      c.requires.0.bounded,
-      subst (λ (c : ℕ). c ≤ 20000) (sym c.needed_multiple-m.ensures) (needed-to _ _ _ _),
-      sym c.stalls.ensures ∙ c.if-stalls.false,
-    )
+  c.requires.0.bounded,
+  subst (λ (c : ℕ). c ≤ 20000) (sym c.needed_multiple-m.ensures) (needed-to _ _ _ _),
+  sym c.stalls.ensures ∙ c.if-stalls.false,
+)
 
 pub returns-in-Stuck : goal.returns-in-Stuck
 returns-in-Stuck c = row-stuck _ _ _ _ _ _ c.needed_multiple-m.ensures (sym c.stalls.ensures ∙ c.if-stalls.false) _

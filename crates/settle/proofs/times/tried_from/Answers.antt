@@ -1,5 +1,4 @@
 -- `settle::times::tried_from` meets its contract: by the law, as the definition has it.
-use borrow.Author.Rules.{rules}
 use Rattle.settle.specs.Settle.{tried_from}
 use Rattle.settle.proofs.TimeLaws.{is-curve, no-curve}
 use Rattle.settle.proofs.times.tried_from.Goals as goal

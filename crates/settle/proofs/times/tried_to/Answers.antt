@@ -1,5 +1,4 @@
 -- `settle::times::tried_to` meets its contract: by the law, as the definition has it.
-use borrow.Author.Rules.{rules}
 use Rattle.settle.specs.Settle.{tried_to}
 use Rattle.settle.proofs.TimeLaws.{is-curve, no-curve}
 use Rattle.settle.proofs.times.tried_to.Goals as goal

@@ -1,11 +1,7 @@
 -- `settle::times::walk` meets its contract: the rows gone through have no M at most 1.000, and what they ask is joined; it stops at the first that
 -- has one.
-use borrow.Author.Rules.{rules}
-use mathlib.Core.Path.{subst}
 use native.Mathlib.Omega.{arith}
-use Rattle.layout.specs.List.{rows}
-use Rattle.settle.specs.Times.{WantedIs}
-use Rattle.settle.proofs.WalkLaws.{Walking, rows_left, walk_start, walk-row, walk-feeds, walk-stuck, walk-next, walk-shorter, walk_end}
+use Rattle.settle.proofs.WalkLaws.{walk_start, walk-row, walk-feeds, walk-stuck, walk-next, walk-shorter, walk_end}
 use Rattle.settle.proofs.times.walk.Goals as goal
 
 pub first_fed-next-requires : goal.first_fed-next-requires

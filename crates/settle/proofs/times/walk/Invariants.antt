@@ -1,11 +1,7 @@
 -- `settle::times::walk` meets its contract: the rows gone through have no M at most 1.000, and what they ask is joined; it stops at the first that
 -- has one.
-use borrow.Author.Rules.{rules}
-use mathlib.Core.Path.{subst}
-use native.Mathlib.Omega.{arith}
 use Rattle.layout.specs.List.{rows}
-use Rattle.settle.specs.Times.{WantedIs}
-use Rattle.settle.proofs.WalkLaws.{Walking, rows_left, walk_start, walk-row, walk-feeds, walk-stuck, walk-next, walk-shorter, walk_end}
+use Rattle.settle.proofs.WalkLaws.{Walking, rows_left}
 use Rattle.settle.proofs.times.walk.Given as goal
 
 abbrev pub invariant-loop-next : goal.invariant-loop-next
@@ -13,4 +9,3 @@ invariant-loop-next l = Walking l.list l.card l.i l.r l.pickup l.from l.next
 
 abbrev pub decreases-loop-next : goal.decreases-loop-next
 decreases-loop-next l = rows_left (rows l.list) l.next
-
