@@ -1,6 +1,6 @@
 -- `settle::times::ask` meets its contract: between definite rows the least setting is the fed row's delay and the larger step.
 use mathlib.Core.Path.{◌≡◌, sym, ap, ap₂, ◌∙◌}
-use Prim.Native.Nat.{ℕ}
+use Prim.Native.Nat.{ℕ, ◌+◌}
 use native.Mathlib.Omega.{arith}
 use lib.Dec.{eqb}
 use mathlib.Core.Bool.{Bool, true, ◌&&◌}
