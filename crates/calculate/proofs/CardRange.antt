@@ -1,5 +1,6 @@
 -- The card that the whole calculation gives, in range as 9 CARD asks [01 §4], [02 §1, §3]: pickups from 1 and cutoffs to 100,000,000, of secondary
 -- rows to 500,000, delays to 100,000, laws to 2, multipliers to 1,500. And it has as many numbers as the lent one.
+use Rattle.std.proofs.Common.{Option, Some, None}
 use mathlib.Core.Path.{◌≡◌, refl, sym, ◌∙◌, subst}
 use mathlib.Core.Bool.{Bool, true, false, cond}
 use mathlib.Core.List.{List}
@@ -7,8 +8,6 @@ use Prim.Native.Nat.{ℕ, ◌≤◌, ◌<◌}
 use native.Mathlib.Nat.{le_trans}
 use native.Mathlib.Omega.{arith}
 use lib.ListN.{length}
-use Rattle.fold.specs.declared.Found.{Found}
-use Rattle.fold.specs.declared.Found.TheVariants.{At, Nothing}
 use Rattle.fold.proofs.BoolLaws.{zero-not-one}
 use Rattle.answers.specs.declared.Answer.{Answer}
 use Rattle.answers.specs.declared.Answer.TheVariants.{Done}
@@ -45,9 +44,9 @@ cutoff-to r b = by_cases (least_pickup r (stays_clear r)) refl
     by-sight true C q = q
     by-sight false C q = omega arith
 
-    by_cases : (f : Found) → least_pickup r (stays_clear r) ≡ f → (printed (fitting r f)).0 ≤ setting_most r.ratio.primary
-    by_cases (At C) e = by-sight (sees_near r (primary_of r (keyed C))) C (found-bounded r b _ C e)
-    by_cases Nothing e = omega arith
+    by_cases : (f : Option ℕ) → least_pickup r (stays_clear r) ≡ f → (printed (fitting r f)).0 ≤ setting_most r.ratio.primary
+    by_cases (Some C) e = by-sight (sees_near r (primary_of r (keyed C))) C (found-bounded r b _ C e)
+    by_cases None e = omega arith
 
 -- a row at its least settings is in range
 pub least-in-range : (v : View) (k : Settings) (i : ℕ) → Bounded (v.row i) → LeastRow v k i → CardRowInRange (setting_most (v.row i).ratio.primary) (k i)

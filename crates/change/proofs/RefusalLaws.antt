@@ -1,11 +1,10 @@
 -- What a refusal is: no test and no working out refuses with Done, and only EDIT's own test with Edit.
+use Rattle.std.proofs.Common.{Option, Some, None}
 use mathlib.Core.Path.{◌≡◌, refl, sym, ap, ◌∙◌, subst}
 use mathlib.Core.Bool.{Bool, true, false, cond, ◌&&◌}
 use mathlib.Core.List.{List, [], ◌∷◌}
 use Prim.Native.Nat.{ℕ, ◌+◌, ◌*◌, ◌/◌, ◌%◌}
 use lib.Dec.{eqb, leb}
-use Rattle.fold.specs.declared.Found.{Found}
-use Rattle.fold.specs.declared.Found.TheVariants.{At, Nothing}
 use Rattle.fold.specs.First.{first}
 use Rattle.answers.specs.declared.Answer.{Answer}
 use Rattle.answers.specs.declared.Answer.TheVariants.{Done, Count, Room, Edit}
@@ -67,18 +66,18 @@ pub rows-later : (l : List ℕ) (a : Answer) → rows_test l ≡ Refused a → L
 unfolding rows_test tree_test field_answer tree_answer
 rows-later l a = by_cases (first _ 0 _) (first _ 0 _)
   where
-    by_cases : (f g : Found) → field_answer l (tree_answer g) f ≡ Refused a → Later a
-    by_cases (At i) g e = subst Later (same_answer e) (record { refuses = record { not_done = refl }; not-edit = refl })
-    by_cases Nothing (At i) e = subst Later (same_answer e) (record { refuses = record { not_done = refl }; not-edit = refl })
-    by_cases Nothing Nothing e = absurd (never-passed e)
+    by_cases : (f g : Option ℕ) → field_answer l (tree_answer g) f ≡ Refused a → Later a
+    by_cases (Some i) g e = subst Later (same_answer e) (record { refuses = record { not_done = refl }; not-edit = refl })
+    by_cases None (Some i) e = subst Later (same_answer e) (record { refuses = record { not_done = refl }; not-edit = refl })
+    by_cases None None e = absurd (never-passed e)
 
 card-later : (l : List ℕ) (i : ℕ) (c : List ℕ) (a : Answer) → card_test l i c ≡ Refused a → Later a
 unfolding card_test card_answer
 card-later l i c a = by_cases (first _ 0 _)
   where
-    by_cases : (f : Found) → card_answer f ≡ Refused a → Later a
-    by_cases (At i) e = subst Later (same_answer e) (record { refuses = record { not_done = refl }; not-edit = refl })
-    by_cases Nothing e = absurd (never-passed e)
+    by_cases : (f : Option ℕ) → card_answer f ≡ Refused a → Later a
+    by_cases (Some i) e = subst Later (same_answer e) (record { refuses = record { not_done = refl }; not-edit = refl })
+    by_cases None e = absurd (never-passed e)
 
 pub work-later : (l is c : List ℕ) (a : Answer) → work_out l is c ≡ refused a → Later a
 unfolding work_out on_settled

@@ -1,4 +1,5 @@
 -- A name read at the place i of the bytes w, how a name's place moves with its start, and what a name that was read says.
+use Rattle.std.proofs.Common.{Option, Some, None}
 use mathlib.Core.Path.{◌≡◌, refl, sym}
 use mathlib.Core.Bool.{Bool, true, false, cond}
 use mathlib.Core.List.{List, [], ◌∷◌}
@@ -10,8 +11,6 @@ use lib.ListN.{length, take, drop, get_or, drop_of_length-le, length-drop}
 use lib.Seq.{drop-drop, take_all, take-nil}
 use borrow.Author.Tests.{eq-eqb, ne_eqb}
 use Rattle.fold.proofs.BoolLaws.{zero-not-one}
-use Rattle.fold.specs.declared.Found.{Found}
-use Rattle.fold.specs.declared.Found.TheVariants.{At, Nothing}
 use Rattle.cursor.specs.declared.Class.TheVariants.{Bare}
 use Rattle.cursor.specs.declared.Cursor.{Cursor}
 use Rattle.cursor.specs.declared.NameRead.TheVariants.{Name, NoName}
@@ -20,7 +19,7 @@ use Rattle.cursor.specs.Pieces.{moved, plain_part, quote_part, name_most, bare_e
 use Rattle.cursor.proofs.RunLaws.{first-left}
 
 module _ (w : List ℕ) (i : ℕ) where
-  pub name-over : length w ≤ i → name_end i (drop i w) ≡ Nothing
+  pub name-over : length w ≤ i → name_end i (drop i w) ≡ None
   unfolding name_end bare_end run
   name-over h = rw (drop_of_length-le w h)
 
@@ -32,20 +31,20 @@ module _ (w : List ℕ) (i : ℕ) where
   unfolding name_end
   name-bare h = rw (first-left, ne_eqb (get_or w i 0) 34 h)
 
-pub bare-none : (i n : ℕ) → i + n ≡ i → bare_end i n ≡ Nothing
+pub bare-none : (i n : ℕ) → i + n ≡ i → bare_end i n ≡ None
 unfolding bare_end
 bare-none i n h = rw (eq-eqb n 0 (omega arith))
 
-pub bare-some : (i n : ℕ) → (i + n ≡ i → ⊥) → bare_end i n ≡ At (i + n)
+pub bare-some : (i n : ℕ) → (i + n ≡ i → ⊥) → bare_end i n ≡ Some (i + n)
 unfolding bare_end
 bare-some i n h = rw (ne_eqb n 0 (λ z. h (omega arith)))
 
 -- a place i further on
-abbrev pub further : ℕ → Found → Found
-further i (At n) = At (i + n)
-further i Nothing = Nothing
+abbrev pub further : ℕ → Option ℕ → Option ℕ
+further i (Some n) = Some (i + n)
+further i None = None
 
-further-cond : (i : ℕ) (t : Bool) (a b : Found) → cond t (further i a) (further i b) ≡ further i (cond t a b)
+further-cond : (i : ℕ) (t : Bool) (a b : Option ℕ) → cond t (further i a) (further i b) ≡ further i (cond t a b)
 further-cond i true a b = refl
 further-cond i false a b = refl
 
@@ -60,14 +59,14 @@ parts-move (b ∷ l) i k =
     let h = parts-move l i (k + 1) in
     record {
       plain =
-          rw (add_assoc i k 1, h.plain, h.quote, further-cond i (plain_byte b) (plain_part (k + 1) l) Nothing)
-          (further-cond i (eqb b 34) (quote_part (k + 1) l) (cond (plain_byte b) (plain_part (k + 1) l) Nothing));
-      quote = rw (add_assoc i k 1, h.plain) (further-cond i (eqb b 34) (plain_part (k + 1) l) (At k));
+          rw (add_assoc i k 1, h.plain, h.quote, further-cond i (plain_byte b) (plain_part (k + 1) l) None)
+          (further-cond i (eqb b 34) (quote_part (k + 1) l) (cond (plain_byte b) (plain_part (k + 1) l) None));
+      quote = rw (add_assoc i k 1, h.plain) (further-cond i (eqb b 34) (plain_part (k + 1) l) (Some k));
     }
 
 bare-moves : (i n : ℕ) → bare_end i n ≡ further i (bare_end 0 n)
 unfolding bare_end
-bare-moves i n = rw (zero-add n) (further-cond i (eqb n 0) Nothing (At n))
+bare-moves i n = rw (zero-add n) (further-cond i (eqb n 0) None (Some n))
 
 pub name-moves : (i : ℕ) (w : List ℕ) → name_end i w ≡ further i (name_end 0 w)
 unfolding name_end
@@ -80,9 +79,9 @@ pub name-read : (c : Cursor) (l w : List ℕ) → w ≡ take name_most l → nam
 unfolding name_at is_name name_length is_found place_found
 name-read c l w e = rw (e, name-moves c.at (take name_most l)) (by_cases (name_end 0 (take name_most l)))
   where
-    by_cases : (f : Found) → name_to c.line (further c.at f) ≡ cond (is_found f) (Name (moved c (place_found f))) NoName
-    by_cases (At n) = refl
-    by_cases Nothing = refl
+    by_cases : (f : Option ℕ) → name_to c.line (further c.at f) ≡ cond (is_found f) (Name (moved c (place_found f))) NoName
+    by_cases (Some n) = refl
+    by_cases None = refl
 
 -- the 24 bytes from i on
 pub window-short : (s : List ℕ) (i : ℕ) → length s - i ≤ name_most → drop i s ≡ take name_most (drop i s)

@@ -1,7 +1,5 @@
 -- The pieces of a line: number, name, comma [01 §6]. Each looks at the bytes that are left. Definitions only.
-use Rattle.std.specs.Prelude.{Bool, true, false, cond, not, ◌&&◌, ◌||◌, List, [], ◌∷◌, ℕ, ◌+◌, ◌-◌, ◌*◌, leb, eqb, get_or, take, drop}
-use Rattle.fold.specs.declared.Found.{Found}
-use Rattle.fold.specs.declared.Found.TheVariants.{At, Nothing}
+use Rattle.std.specs.Prelude.{Bool, true, false, cond, not, ◌&&◌, ◌||◌, List, [], ◌∷◌, ℕ, ◌+◌, ◌-◌, ◌*◌, leb, eqb, get_or, take, drop, Option, Some, None}
 use Rattle.cursor.specs.declared.Class.TheVariants.{Digit, Bare}
 use Rattle.cursor.specs.declared.Cursor.{Cursor}
 use Rattle.cursor.specs.declared.Column.{Column}
@@ -40,39 +38,39 @@ number_of l = decimal 0 (take (digits l) l)
 -- A quoted name after its opening quote, i bytes into the name: where it ends.
 unfoldable mutual
   -- plain bytes up to a quote
-  pub plain_part : ℕ → List ℕ → Found
-  plain_part i [] = Nothing
+  pub plain_part : ℕ → List ℕ → Option ℕ
+  plain_part i [] = None
   plain_part i (b ∷ l) =
       let quote = quote_part (i + 1) l in
       let more = plain_part (i + 1) l in
-      cond (eqb b 34) quote (cond (plain_byte b) more Nothing)
+      cond (eqb b 34) quote (cond (plain_byte b) more None)
 
   -- after a quote: a second one doubles it, otherwise it closes the name
-  pub quote_part : ℕ → List ℕ → Found
-  quote_part i [] = At i
+  pub quote_part : ℕ → List ℕ → Option ℕ
+  quote_part i [] = Some i
   quote_part i (b ∷ l) =
       let more = plain_part (i + 1) l in
-      cond (eqb b 34) more (At i)
+      cond (eqb b 34) more (Some i)
 
 -- a name has at most so many bytes
 abbrev pub name_most : ℕ
 name_most = 24
 
 -- a run of n bytes without quotes that starts at i
-unfoldable pub bare_end : ℕ → ℕ → Found
-bare_end i n = cond (eqb n 0) Nothing (At (i + n))
+unfoldable pub bare_end : ℕ → ℕ → Option ℕ
+bare_end i n = cond (eqb n 0) None (Some (i + n))
 
 -- a name that starts at i, within the bytes w: where it ends
-unfoldable pub name_end : ℕ → List ℕ → Found
+unfoldable pub name_end : ℕ → List ℕ → Option ℕ
 name_end i w = cond (eqb (get_or w 0 0) 34) (plain_part (i + 1) (drop 1 w)) (bare_end i (run (passes Bare) w))
 
-unfoldable pub is_found : Found → Bool
-is_found (At n) = true
-is_found Nothing = false
+unfoldable pub is_found : Option ℕ → Bool
+is_found (Some n) = true
+is_found None = false
 
-unfoldable pub place_found : Found → ℕ
-place_found (At n) = n
-place_found Nothing = 0
+unfoldable pub place_found : Option ℕ → ℕ
+place_found (Some n) = n
+place_found None = 0
 
 -- a name comes next, and how long it is, quotes counted
 unfoldable pub is_name : List ℕ → Bool
@@ -113,6 +111,6 @@ field_at first column c l =
     cond first (cell_at column c l) (cond (is_comma l) (cell_at column (moved c 1) (drop 1 l)) NoCell)
 
 -- a name that ends at a place that was found, in a line
-abbrev pub name_to : ℕ → Found → NameRead
-name_to line (At i) = Name (record { at = i; line = line })
-name_to line Nothing = NoName
+abbrev pub name_to : ℕ → Option ℕ → NameRead
+name_to line (Some i) = Name (record { at = i; line = line })
+name_to line None = NoName

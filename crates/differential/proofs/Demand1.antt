@@ -1,12 +1,11 @@
 -- What any eight numbers get [02 §11]: `differential_of` gives exactly what the request says, INPUT and SLOPE exactly when it says so, and nothing
 -- else. By cases on the first input out of its range and on the least slope.
+use Rattle.std.proofs.Common.{Option, Some, None}
 use mathlib.Core.Path.{◌≡◌, refl, sym, ap, ◌∙◌, subst}
 use mathlib.Core.Logic.{◌↔◌}
 use Prim.Native.Nat.{ℕ, ◌+◌, ◌-◌}
 use native.Mathlib.Omega.{arith}
 use Rattle.answers.specs.declared.Answer.TheVariants.{Input, Slope}
-use Rattle.fold.specs.declared.Found.{Found}
-use Rattle.fold.specs.declared.Found.TheVariants.{At, Nothing}
 use Rattle.differential.specs.declared.Given.{Given}
 use Rattle.differential.specs.declared.Inputs.{Inputs}
 use Rattle.differential.specs.declared.Verdict.{Verdict}
@@ -36,20 +35,20 @@ module _ (x : Inputs) where
   gets : Gets x (differential_of x)
   gets = by-input (first_outside x) refl
     where
-      by-slope : InRange x → first_outside x ≡ Nothing → (f : Found) → least_slope x.start x.through ≡ f → Gets x (differential_of x)
-      by-slope r e (At slope) d =
+      by-slope : InRange x → first_outside x ≡ None → (f : Option ℕ) → least_slope x.start x.through ≡ f → Gets x (differential_of x)
+      by-slope r e (Some slope) d =
           let g : Gets x (done_with x slope) =
           Gets.done slope r ((least-exactly x (through-range x r).0 slope).0 d) (is-verdict x slope) (numbered (verdict_of x slope)) in
           subst (Gets x) (slope-done x slope e d) g
-      by-slope r e Nothing d =
+      by-slope r e None d =
           let g : Gets x (refused_with Slope) = Gets.SLOPE r ((none-exactly x (through-range x r).0).0 d) in
           subst (Gets x) (slope-refused x e d) g
 
-      by-input : (f : Found) → first_outside x ≡ f → Gets x (differential_of x)
-      by-input (At k) e =
+      by-input : (f : Option ℕ) → first_outside x ≡ f → Gets x (differential_of x)
+      by-input (Some k) e =
           let g : Gets x (refused_with (Input (k + 1))) = Gets.INPUT (k + 1) (found-lowest x k e) in
           subst (Gets x) (input-refused x k e) g
-      by-input Nothing e = by-slope ((none-outside x).0 e) e (least_slope x.start x.through) refl
+      by-input None e = by-slope ((none-outside x).0 e) e (least_slope x.start x.through) refl
 
   got : {g : Given} → Gets x g → differential_of x ≡ g
   got (Gets.done slope r l i n) =

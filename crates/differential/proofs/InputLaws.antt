@@ -1,4 +1,5 @@
 -- Laws of the ranges: the table says what the request says of each input, by its name and its place.
+use Rattle.std.proofs.Common.{Some, None}
 use mathlib.Core.Path.{◌≡◌, subst}
 use mathlib.Core.Bool.{false}
 use mathlib.Core.Logic.{◌↔◌}
@@ -6,7 +7,6 @@ use Prim.Native.Nat.{ℕ, zero, suc, ◌+◌, ◌-◌, ◌≤◌, ◌<◌}
 use native.Mathlib.Omega.{arith}
 use lib.ListN.{get_or}
 use borrow.Author.Tests.{not-false}
-use Rattle.fold.specs.declared.Found.TheVariants.{At, Nothing}
 use Rattle.fold.proofs.BoolLaws.{fails, not-both}
 use Rattle.fold.proofs.FirstLaws.{first-at, first-is, first-none, first-nothing}
 use Rattle.layout.specs.Fields.{in_bounds}
@@ -73,7 +73,7 @@ module _ (x : Inputs) where
     restraint-to = (right-within (r 8 (omega arith) (omega arith))).1
 
   -- no input is out of its range exactly where all are in theirs
-  pub none-outside : (first_outside x ≡ Nothing) ↔ InRange x
+  pub none-outside : (first_outside x ≡ None) ↔ InRange x
   none-outside = (
     λ e place a b.
         (at_place place a b).0
@@ -84,7 +84,7 @@ module _ (x : Inputs) where
   )
 
   -- the first that is found is the lowest place
-  pub found-lowest : (k : ℕ) → first_outside x ≡ At k → LowestOutside x (k + 1)
+  pub found-lowest : (k : ℕ) → first_outside x ≡ Some k → LowestOutside x (k + 1)
   found-lowest k e =
       let f = first-at (outside ranges (values_of x)) input_count 0 k e in
       let s : k + 1 - 1 ≡ k = omega arith in
@@ -97,7 +97,7 @@ module _ (x : Inputs) where
         outside = λ r. not-both f.passes (within-inside k (subst InTable s (right-within r)));
       }
 
-  pub lowest-found : (place : ℕ) → LowestOutside x place → first_outside x ≡ At (place - 1)
+  pub lowest-found : (place : ℕ) → LowestOutside x place → first_outside x ≡ Some (place - 1)
   lowest-found place l =
       first-is (outside ranges (values_of x)) input_count 0 (place - 1) (omega arith) (omega (arith, l.from, l.to))
       (rw

@@ -1,4 +1,5 @@
 -- Laws of the slope: the test is the request's inequality, and the least slope is what `least_slope` looks up.
+use Rattle.std.proofs.Common.{Some, None}
 use mathlib.Core.Path.{◌≡◌, sym, ap, ◌∙◌}
 use mathlib.Core.Bool.{true}
 use mathlib.Core.Logic.{◌↔◌}
@@ -7,7 +8,6 @@ use native.Mathlib.Nat.{mul-add}
 use native.Mathlib.Omega.{arith}
 use lib.Dec.{leb}
 use borrow.Author.Tests.{leb-true, le-leb}
-use Rattle.fold.specs.declared.Found.TheVariants.{At, Nothing}
 use Rattle.fold.proofs.BoolLaws.{same_test, fails, not-both}
 use Rattle.grid.specs.Grid.{least_on}
 use Rattle.grid.specs.Round.{ceil_div}
@@ -28,7 +28,7 @@ module _ (start through : ℕ) where
   unfolding slope_fits
   fits_by slope = (λ t. leb-true _ _ t, λ h. le-leb _ _ h)
 
-  pub slope-to : (slope : ℕ) → least_slope start through ≡ At slope → slope ≤ slope_to
+  pub slope-to : (slope : ℕ) → least_slope start through ≡ Some slope → slope ≤ slope_to
   unfolding least_slope
   slope-to slope e = (least_on-least slope_from slope_to slope_step (omega arith) (slope_fits start through) slope e).available.within
 
@@ -40,7 +40,7 @@ module _ (start through : ℕ) where
       (λ x a. le-leb 0 x (omega arith) ∙ sym ((fits_by x).1 (omega arith)))
 
   -- it is not, and nothing is above 1: none fits
-  pub slope-none : through ≡ 100 → 100 * start < error_of through → Nothing ≡ least_slope start through
+  pub slope-none : through ≡ 100 → 100 * start < error_of through → None ≡ least_slope start through
   unfolding least_slope
   slope-none e h =
       sym
@@ -68,7 +68,7 @@ module _ (x : Inputs) (above : 100 ≤ x.through) where
     λ h. (fits_by x.start x.through slope).1 (omega (arith, h, above-one slope x.through above)),
   )
 
-  pub least-exactly : (slope : ℕ) → (least_slope x.start x.through ≡ At slope) ↔ LeastFits x slope
+  pub least-exactly : (slope : ℕ) → (least_slope x.start x.through ≡ Some slope) ↔ LeastFits x slope
   unfolding least_slope
   least-exactly slope = (
     λ e.
@@ -87,7 +87,7 @@ module _ (x : Inputs) (above : 100 ≤ x.through) where
         }),
   )
 
-  pub none-exactly : (least_slope x.start x.through ≡ Nothing) ↔ ((slope : ℕ) → Offered slope → Fits x slope → ⊥)
+  pub none-exactly : (least_slope x.start x.through ≡ None) ↔ ((slope : ℕ) → Offered slope → Fits x slope → ⊥)
   unfolding least_slope
   none-exactly = (
     λ e s o f. not-both ((fits-exactly s).1 f) (least_on-nothing slope_from slope_to slope_step (omega arith) (slope_fits x.start x.through) e s o),

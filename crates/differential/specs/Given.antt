@@ -1,10 +1,8 @@
 -- [02 §11] What the eight inputs are given: the card's five and the verdict, or a refusal. Definitions only.
-use Rattle.std.specs.Prelude.{ℕ, ◌+◌}
+use Rattle.std.specs.Prelude.{ℕ, ◌+◌, Option, Some, None}
 use Rattle.answers.specs.declared.Answer.{Answer}
 use Rattle.answers.specs.declared.Answer.TheVariants.{Input, Slope}
 use Rattle.answers.specs.Answer as answer
-use Rattle.fold.specs.declared.Found.{Found}
-use Rattle.fold.specs.declared.Found.TheVariants.{At, Nothing}
 use Rattle.differential.specs.declared.Given.{Given}
 use Rattle.differential.specs.declared.Inputs.{Inputs}
 use Rattle.differential.specs.Inputs.{first_outside}
@@ -40,13 +38,13 @@ done_with x slope =
     }
 
 -- "16 INPUT (place, lowest first ..), then 17 SLOPE"
-unfoldable pub by_slope : Inputs → Found → Given
-by_slope x (At slope) = done_with x slope
-by_slope x Nothing = refused_with Slope
+unfoldable pub by_slope : Inputs → Option ℕ → Given
+by_slope x (Some slope) = done_with x slope
+by_slope x None = refused_with Slope
 
-unfoldable pub by_input : Inputs → Found → Given
-by_input x (At k) = refused_with (Input (k + 1))
-by_input x Nothing = by_slope x (least_slope x.start x.through)
+unfoldable pub by_input : Inputs → Option ℕ → Given
+by_input x (Some k) = refused_with (Input (k + 1))
+by_input x None = by_slope x (least_slope x.start x.through)
 
 unfoldable pub differential_of : Inputs → Given
 differential_of x = by_input x (first_outside x)

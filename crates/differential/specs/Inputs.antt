@@ -1,7 +1,6 @@
 -- [02 §11] The eight inputs in the order of their places, and the whole hundredths allowed in each. Inputs are counted from 0 here.
 -- Definitions only.
-use Rattle.std.specs.Prelude.{Bool, not, List, [], ◌∷◌, ℕ, get_or}
-use Rattle.fold.specs.declared.Found.{Found}
+use Rattle.std.specs.Prelude.{Bool, not, List, [], ◌∷◌, ℕ, get_or, Option}
 use Rattle.fold.specs.First.{first}
 use Rattle.layout.specs.Fields.{in_bounds}
 use Rattle.differential.specs.declared.Inputs.{Inputs}
@@ -39,5 +38,5 @@ abbrev pub outside : List ℕ → List ℕ → ℕ → Bool
 outside table values k = not (in_bounds table k (get_or values k 0))
 
 -- "place, lowest first"
-abbrev pub first_outside : Inputs → Found
+abbrev pub first_outside : Inputs → Option ℕ
 first_outside x = first (outside ranges (values_of x)) 0 input_count

@@ -1,7 +1,6 @@
 -- [02 §11] The slope. Start, slope and through are whole hundredths, and a product of two of them is in hundredths of a hundredth: there both
 -- sides of the request's inequality are compared, and nothing is rounded. Definitions only.
-use Rattle.std.specs.Prelude.{Bool, ℕ, ◌+◌, ◌-◌, ◌*◌, leb}
-use Rattle.fold.specs.declared.Found.{Found}
+use Rattle.std.specs.Prelude.{Bool, ℕ, ◌+◌, ◌-◌, ◌*◌, leb, Option}
 use Rattle.grid.specs.Grid.{least_on}
 use Rattle.differential.specs.Inputs.{one}
 
@@ -24,5 +23,5 @@ abbrev pub slope_step : ℕ
 slope_step = 10
 
 -- "the least of" them that fits
-unfoldable pub least_slope : ℕ → ℕ → Found
+unfoldable pub least_slope : ℕ → ℕ → Option ℕ
 least_slope start through = least_on slope_from slope_to slope_step (slope_fits start through)

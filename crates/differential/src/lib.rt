@@ -10,7 +10,6 @@ ghost use Rattle.differential.specs.Slope.{slope_to, least_slope};
 ghost use Rattle.differential.specs.Verdict.{characteristic, both_block, verdict_of, verdict_number};
 
 use answers::{Answer, numbers};
-use fold::Found;
 use grid::{ceil_div, least_on};
 use layout::in_bounds;
 
@@ -76,7 +75,7 @@ const ONE: u64 = 100;
 const BEND: u64 = ONE;
 
 // The first input that is out of its range, from 0.
-fn first_outside(x: Inputs) -> Found
+fn first_outside(x: Inputs) -> Option<u64>
     ensures { result ≡ first_outside x }
 {
     let table = RANGES;
@@ -93,16 +92,16 @@ fn first_outside(x: Inputs) -> Found
     let mut k = 0;
     while k < INPUTS {
         if !in_bounds(&table, k, values[k]) {
-            return Found::At(k as u64);
+            return Some(k as u64);
         }
         k += 1;
     }
-    Found::Nothing
+    None
 }
 
 // The least slope that fits: of those that the relay offers the next one at or above what is wanted beyond the start, over what the
 // outside fault current has above 1.
-fn least_slope(start: u64, through: u64) -> Found
+fn least_slope(start: u64, through: u64) -> Option<u64>
     requires { (start ≤ 100) × (100 ≤ through) × (through ≤ 2000) }
     ensures { result ≡ least_slope start through }
 {
@@ -112,7 +111,7 @@ fn least_slope(start: u64, through: u64) -> Found
         return least_on(SLOPE_FROM, SLOPE_TO, SLOPE_STEP, 0);
     }
     if through == ONE {
-        return Found::Nothing;
+        return None;
     }
     least_on(
         SLOPE_FROM,
@@ -206,11 +205,11 @@ fn done(x: Inputs, slope: u64) -> Given
 pub fn differential_card(x: Inputs) -> Given
     ensures { result ≡ differential_of x }
 {
-    if let Found::At(k) = first_outside(x) {
+    if let Some(k) = first_outside(x) {
         return refused(Answer::Input(k + 1));
     }
     match least_slope(x.start, x.through) {
-        Found::At(slope) => done(x, slope),
-        Found::Nothing => refused(Answer::Slope),
+        Some(slope) => done(x, slope),
+        None => refused(Answer::Slope),
     }
 }

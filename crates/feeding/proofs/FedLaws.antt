@@ -1,5 +1,6 @@
 -- Laws of `fed_from`: it gives the least row from j on that row i feeds, and the number of rows where there is none; so going from one fed
 -- row to the next passes over nothing that a search among the fed rows would see.
+use Rattle.std.proofs.Common.{Option, Some, None}
 use mathlib.Core.Path.{◌≡◌, refl, ap, ◌∙◌}
 use mathlib.Core.Bool.{Bool, true, false, ◌&&◌}
 use mathlib.Core.Logic.{◌↔◌, ⊎_elim}
@@ -8,8 +9,6 @@ use Prim.Native.Nat.{ℕ, ◌+◌, ◌-◌, ◌≤◌, ◌<◌}
 use native.Mathlib.Nat.{le_of_lt}
 use native.Mathlib.Omega.{arith}
 use borrow.Author.Tests.{eqb-true, eqb-false, eq-eqb, ne_eqb}
-use Rattle.fold.specs.declared.Found.{Found}
-use Rattle.fold.specs.declared.Found.TheVariants.{At, Nothing}
 use Rattle.fold.specs.First.{first}
 use Rattle.fold.proofs.BoolLaws.{lt-or-le}
 use Rattle.fold.proofs.FirstLaws.{first-at, first-nothing, first-end, first-step-true, first-step-false}
@@ -18,9 +17,9 @@ use Rattle.feeding.specs.Fed.{feeder_of, feeds, found_or, fed_from, NextFed}
 use Rattle.feeding.proofs.OverLaws.{first-over-fails}
 
 module _ (l : List ℕ) (i : ℕ) where
-  found-is-next : (j : ℕ) → j ≤ rows l → (o : Found) → first (feeds l i) j (rows l - j) ≡ o → NextFed l i j (found_or (rows l) o)
+  found-is-next : (j : ℕ) → j ≤ rows l → (o : Option ℕ) → first (feeds l i) j (rows l - j) ≡ o → NextFed l i j (found_or (rows l) o)
   unfolding found_or
-  found-is-next j h (At k) e =
+  found-is-next j h (Some k) e =
       let r = first-at (feeds l i) (rows l - j) j k e in
       record {
         from = r.from;
@@ -28,7 +27,7 @@ module _ (l : List ℕ) (i : ℕ) where
         fed = λ _. eqb-true (feeder_of l k) (i + 1) r.passes;
         none_before = λ y a b. eqb-false (feeder_of l y) (i + 1) (r.before y a b);
       }
-  found-is-next j h Nothing e =
+  found-is-next j h None e =
       record {
         from = h;
         to = omega arith;
@@ -42,7 +41,7 @@ module _ (l : List ℕ) (i : ℕ) where
   unfolding fed_from
   fed_from-next j h = found-is-next j h (first (feeds l i) j (rows l - j)) refl
 
-  pub fed_from-end : (j : ℕ) → rows l ≤ j → fed_from l i j ≡ found_or (rows l) Nothing
+  pub fed_from-end : (j : ℕ) → rows l ≤ j → fed_from l i j ≡ found_or (rows l) None
   unfolding fed_from
   fed_from-end j h = ap (found_or (rows l)) (first-end (feeds l i) j (rows l) h)
 
@@ -102,7 +101,7 @@ module _ (l : List ℕ) (i : ℕ) where
         (λ j lo hi. ap (λ (t : Bool). t && p j) (fed_from-between a j lo hi))
 
     pub first-fed-passes :
-        (j : ℕ) → j < rows l → feeds l i j ≡ true → p j ≡ true → first (λ j. feeds l i j && p j) j (rows l - j) ≡ At j
+        (j : ℕ) → j < rows l → feeds l i j ≡ true → p j ≡ true → first (λ j. feeds l i j && p j) j (rows l - j) ≡ Some j
     first-fed-passes j h e t = first-step-true (λ j. feeds l i j && p j) j (rows l) h (ap (λ (b : Bool). b && p j) e ∙ t)
 
     pub first-fed-fails :

@@ -1,9 +1,7 @@
 -- [01 §2] The rows that a row feeds, ascending: "fed rows are those it feeds directly". They are found once for the whole list and kept as
 -- two numbers a row, so that going through the fed rows of every row takes no more steps than the list has rows. Rows are counted
 -- from 0, but the numbers kept are those of the list, from 1. Definitions only.
-use Rattle.std.specs.Prelude.{◌≡◌, Bool, true, cond, ◌≢◌, List, ℕ, ◌+◌, ◌-◌, ◌*◌, ◌≤◌, ◌<◌, eqb, ltb, length, get_or}
-use Rattle.fold.specs.declared.Found.{Found}
-use Rattle.fold.specs.declared.Found.TheVariants.{At, Nothing}
+use Rattle.std.specs.Prelude.{◌≡◌, Bool, true, cond, ◌≢◌, List, ℕ, ◌+◌, ◌-◌, ◌*◌, ◌≤◌, ◌<◌, eqb, ltb, length, get_or, Option, Some, None}
 use Rattle.fold.specs.First.{first}
 use Rattle.layout.specs.Counts.{rows_most}
 use Rattle.layout.specs.Fields.{at_feeder}
@@ -18,9 +16,9 @@ abbrev pub feeds : List ℕ → ℕ → ℕ → Bool
 feeds l i j = eqb (feeder_of l j) (i + 1)
 
 -- a row that was found, or the number of rows where none was
-unfoldable pub found_or : ℕ → Found → ℕ
-found_or n (At j) = j
-found_or n Nothing = n
+unfoldable pub found_or : ℕ → Option ℕ → ℕ
+found_or n (Some j) = j
+found_or n None = n
 
 -- the first row from j on that row i feeds, or the number of rows where there is none
 unfoldable pub fed_from : List ℕ → ℕ → ℕ → ℕ

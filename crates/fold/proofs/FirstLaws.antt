@@ -1,4 +1,5 @@
 -- Laws of `first`: it gives the first number that passes, and nothing where none does.
+use Rattle.std.proofs.Common.{Some, None}
 use mathlib.Core.Path.{◌≡◌, refl, ◌∙◌}
 use mathlib.Core.Bool.{Bool, true, false}
 use mathlib.Core.Logic.{⊎_elim}
@@ -6,7 +7,6 @@ use Prim.Native.Nat.{ℕ, zero, suc, ◌+◌, ◌-◌, ◌≤◌, ◌<◌}
 use native.Mathlib.Nat.{suc-add, add-suc, eq-or-lt_of_le}
 use native.Mathlib.Numerals.{add-one}
 use native.Mathlib.Omega.{arith}
-use Rattle.fold.specs.declared.Found.TheVariants.{At, Nothing}
 use Rattle.fold.specs.First.{first}
 use Rattle.fold.proofs.BoolLaws.{passes-or-fails, zero-not-one}
 
@@ -20,7 +20,7 @@ first-same ok ok' (suc n) i h =
     rw (rest, e)
 
 module _ (ok : ℕ → Bool) where
-  pub first-step-true : (i n : ℕ) → i < n → ok i ≡ true → first ok i (n - i) ≡ At i
+  pub first-step-true : (i n : ℕ) → i < n → ok i ≡ true → first ok i (n - i) ≡ Some i
   unfolding first
   first-step-true i n h p =
       let e : n - i ≡ suc (n - suc i) = omega arith in
@@ -32,14 +32,14 @@ module _ (ok : ℕ → Bool) where
       let e : n - i ≡ suc (n - suc i) = omega arith in
       rw (add-one, e, p)
 
-  pub first-end : (i n : ℕ) → n ≤ i → first ok i (n - i) ≡ Nothing
+  pub first-end : (i n : ℕ) → n ≤ i → first ok i (n - i) ≡ None
   unfolding first
   first-end i n h =
       let e : n - i ≡ 0 = omega arith in
       rw e
 
   -- the number k is the first that passes among i, .., i + n - 1
-  pub first-is : (n i k : ℕ) → i ≤ k → k < i + n → ok k ≡ true → ((j : ℕ) → i ≤ j → j < k → ok j ≡ false) → first ok i n ≡ At k
+  pub first-is : (n i k : ℕ) → i ≤ k → k < i + n → ok k ≡ true → ((j : ℕ) → i ≤ j → j < k → ok j ≡ false) → first ok i n ≡ Some k
   unfolding first
   first-is zero i k lo hi p none = absurd (omega arith)
   first-is (suc n) i k lo hi p none =
@@ -50,7 +50,7 @@ module _ (ok : ℕ → Bool) where
       rw q (first-is n (suc i) k l (omega (arith, add-suc i n, suc-add i n)) p (λ j a b. none j (omega arith) b)))
       (eq-or-lt_of_le lo)
 
-  pub first-none : (n i : ℕ) → ((j : ℕ) → i ≤ j → j < i + n → ok j ≡ false) → first ok i n ≡ Nothing
+  pub first-none : (n i : ℕ) → ((j : ℕ) → i ≤ j → j < i + n → ok j ≡ false) → first ok i n ≡ None
   unfolding first
   first-none zero i none = refl
   first-none (suc n) i none =
@@ -64,13 +64,13 @@ module _ (ok : ℕ → Bool) where
     pub passes : ok k ≡ true
     pub before : (j : ℕ) → i ≤ j → j < k → ok j ≡ false
 
-  pub first-at : (n i k : ℕ) → first ok i n ≡ At k → FirstAt i n k
+  pub first-at : (n i k : ℕ) → first ok i n ≡ Some k → FirstAt i n k
   unfolding first
   first-at zero i k e = absurd (zero-not-one cc)
   first-at (suc n) i k e =
       ⊎_elim
       (λ (p : ok i ≡ true).
-      let q : At i ≡ At k = rw p at e in
+      let q : Some i ≡ Some k = rw p at e in
       let s : i ≡ k = cc in
       record {
         from = omega arith;
@@ -95,16 +95,16 @@ module _ (ok : ℕ → Bool) where
                 (eq-or-lt_of_le a);
           }
 
-  pub first_below : {n k : ℕ} → first ok 0 n ≡ At k → k < n
+  pub first_below : {n k : ℕ} → first ok 0 n ≡ Some k → k < n
   first_below {n} {k} e = omega (arith, (first-at n 0 k e).below)
 
-  pub first-nothing : (n i : ℕ) → first ok i n ≡ Nothing → (j : ℕ) → i ≤ j → j < i + n → ok j ≡ false
+  pub first-nothing : (n i : ℕ) → first ok i n ≡ None → (j : ℕ) → i ≤ j → j < i + n → ok j ≡ false
   unfolding first
   first-nothing zero i e j a b = absurd (omega arith)
   first-nothing (suc n) i e j a b =
       ⊎_elim
       (λ (p : ok i ≡ true).
-      let q : At i ≡ Nothing = rw p at e in
+      let q : Some i ≡ None = rw p at e in
       absurd (zero-not-one cc))
       (λ (p : ok i ≡ false).
       ⊎_elim
@@ -124,8 +124,8 @@ module _ (ok : ℕ → Bool) where
   pub passed-more : {n i : ℕ} → Passed n i → i < n → ok i ≡ false → Passed n (i + 1)
   passed-more {n} {i} s l p = record { within = omega arith; left = s.left ∙ first-step-false i n l p }
 
-  pub passed-found : {n i : ℕ} → Passed n i → i < n → ok i ≡ true → first ok 0 n ≡ At i
+  pub passed-found : {n i : ℕ} → Passed n i → i < n → ok i ≡ true → first ok 0 n ≡ Some i
   passed-found {n} {i} s l p = s.left ∙ first-step-true i n l p
 
-  pub passed-all : {n i : ℕ} → Passed n i → n ≤ i → first ok 0 n ≡ Nothing
+  pub passed-all : {n i : ℕ} → Passed n i → n ≤ i → first ok 0 n ≡ None
   passed-all {n} {i} s l = s.left ∙ first-end i n l

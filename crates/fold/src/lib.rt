@@ -1,9 +1,2 @@
 // The first number that passes a test, and sums, maxima and "for every" over the numbers below n: definitions and laws.
 #![tactic(auto)]
-
-// What a search gives.
-#[derive(Clone, Copy)]
-pub enum Found {
-    At(u64),
-    Nothing,
-}

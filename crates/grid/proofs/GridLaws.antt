@@ -1,4 +1,5 @@
 -- Laws of `least_on`: available, passing, and no other available value that passes is less.
+use Rattle.std.proofs.Common.{Option, Some, None}
 use mathlib.Core.Path.{◌≡◌, refl, sym, ap, ◌∙◌}
 use mathlib.Core.Bool.{Bool, true, false}
 use mathlib.Core.Logic.{⊎_elim}
@@ -7,8 +8,6 @@ use native.Mathlib.Nat.{le-div_iff_mul-le, suc-mul, mul-le-mul_right, div-zero, 
 use native.Mathlib.Omega.{arith}
 use lib.Dec.{leb}
 use borrow.Author.Tests.{leb-true, le-leb}
-use Rattle.fold.specs.declared.Found.{Found}
-use Rattle.fold.specs.declared.Found.TheVariants.{At, Nothing}
 use Rattle.fold.specs.First.{first}
 use Rattle.grid.specs.Grid.{Available, Least, count, value_at, least_on}
 use Rattle.fold.proofs.BoolLaws.{lt-or-le, not-both, fails, zero-not-one}
@@ -28,9 +27,9 @@ within_count low high step m p h =
     (le-div_iff_mul-le p).1 (rw suc-mul (omega arith))
 
 module _ (low high step : ℕ) (p : 0 < step) (ok : ℕ → Bool) where
-  least-found : (f : Found) (x : ℕ) → first (λ m. ok (low + m * step)) 0 (count low high step) ≡ f → value_at low step f ≡ At x → Least low high step ok x
+  least-found : (f : Option ℕ) (x : ℕ) → first (λ m. ok (low + m * step)) 0 (count low high step) ≡ f → value_at low step f ≡ Some x → Least low high step ok x
   unfolding value_at
-  least-found (At m) x e q =
+  least-found (Some m) x e q =
       let r = first-at (λ m. ok (low + m * step)) (count low high step) 0 m e in
       let v : low + m * step ≡ x = cc in
       record {
@@ -49,49 +48,49 @@ module _ (low high step : ℕ) (p : 0 < step) (ok : ℕ → Bool) where
             (λ (g : m ≤ a.steps). let k = mul-le-mul_right step g in omega (arith, a.on-grid))
             (lt-or-le a.steps m);
       }
-  least-found Nothing x e q = absurd (zero-not-one cc)
+  least-found None x e q = absurd (zero-not-one cc)
 
-  pub least_on-least : (x : ℕ) → least_on low high step ok ≡ At x → Least low high step ok x
+  pub least_on-least : (x : ℕ) → least_on low high step ok ≡ Some x → Least low high step ok x
   unfolding least_on
   least_on-least x e = least-found (first (λ m. ok (low + m * step)) 0 (count low high step)) x refl e
 
   none_found :
-      (f : Found) → first (λ m. ok (low + m * step)) 0 (count low high step) ≡ f → value_at low step f ≡ Nothing → (y : ℕ) →
+      (f : Option ℕ) → first (λ m. ok (low + m * step)) 0 (count low high step) ≡ f → value_at low step f ≡ None → (y : ℕ) →
       Available low high step y → ok y ≡ false
   unfolding value_at
-  none_found (At m) e q y a = absurd (zero-not-one cc)
-  none_found Nothing e q y a =
+  none_found (Some m) e q y a = absurd (zero-not-one cc)
+  none_found None e q y a =
       rw a.on-grid
       (first-nothing (λ m. ok (low + m * step)) (count low high step) 0 e a.steps (omega arith)
       (let w = within_count low high step a.steps p (omega (arith, a.on-grid, a.within)) in omega arith))
 
-  pub least_on-nothing : least_on low high step ok ≡ Nothing → (y : ℕ) → Available low high step y → ok y ≡ false
+  pub least_on-nothing : least_on low high step ok ≡ None → (y : ℕ) → Available low high step y → ok y ≡ false
   unfolding least_on
   least_on-nothing e y a = none_found (first (λ m. ok (low + m * step)) 0 (count low high step)) refl e y a
 
   -- a least passing value is what is found, and where none passes nothing is
-  pub least_on-is : (x : ℕ) → Least low high step ok x → least_on low high step ok ≡ At x
+  pub least_on-is : (x : ℕ) → Least low high step ok x → least_on low high step ok ≡ Some x
   least_on-is x h = by_cases (least_on low high step ok) refl
     where
-      by_cases : (f : Found) → least_on low high step ok ≡ f → least_on low high step ok ≡ At x
-      by_cases (At y) e =
+      by_cases : (f : Option ℕ) → least_on low high step ok ≡ f → least_on low high step ok ≡ Some x
+      by_cases (Some y) e =
           let r = least_on-least y e in
           let a = r.least x h.available h.passes in
           let b = h.least y r.available r.passes in
-          e ∙ ap At (omega arith)
-      by_cases Nothing e = absurd (not-both h.passes (least_on-nothing e x h.available))
+          e ∙ ap Some (omega arith)
+      by_cases None e = absurd (not-both h.passes (least_on-nothing e x h.available))
 
-  pub least_on-none : ((y : ℕ) → Available low high step y → ok y ≡ false) → least_on low high step ok ≡ Nothing
+  pub least_on-none : ((y : ℕ) → Available low high step y → ok y ≡ false) → least_on low high step ok ≡ None
   least_on-none h = by_cases (least_on low high step ok) refl
     where
-      by_cases : (f : Found) → least_on low high step ok ≡ f → least_on low high step ok ≡ Nothing
-      by_cases (At y) e =
+      by_cases : (f : Option ℕ) → least_on low high step ok ≡ f → least_on low high step ok ≡ None
+      by_cases (Some y) e =
           let r = least_on-least y e in
           absurd (not-both r.passes (h y r.available))
-      by_cases Nothing e = e
+      by_cases None e = e
 
 -- where the step is 0 nothing is found
-pub least_on-no-step : (low high step : ℕ) (ok : ℕ → Bool) → step ≡ 0 → least_on low high step ok ≡ Nothing
+pub least_on-no-step : (low high step : ℕ) (ok : ℕ → Bool) → step ≡ 0 → least_on low high step ok ≡ None
 unfolding least_on count first value_at
 least_on-no-step low high step ok e = rw (e, div-zero)
 
@@ -103,7 +102,7 @@ module _ (low high step b from : ℕ) (p : 0 < step) (q : from ≡ max low b) wh
   above : (y : ℕ) → Available low high step y → leb b y ≡ true → from ≤ y
   above y a t = rw q (max-le (omega (arith, a.on-grid)) (leb-true b y t))
 
-  pub least_on-past-high : high < from → least_on low high step (leb b) ≡ Nothing
+  pub least_on-past-high : high < from → least_on low high step (leb b) ≡ None
   least_on-past-high h =
       least_on-none low high step p (leb b) (λ y a. fails (leb b y) (λ t. let g = above y a t in omega (arith, a.within)))
 
@@ -136,7 +135,7 @@ module _ (low high step b from : ℕ) (p : 0 < step) (q : from ≡ max low b) wh
         (λ (l : n.steps ≤ a.steps). let k = mul-le-mul_right step l in omega (arith, a.on-grid, n.on-grid))
         (lt-or-le a.steps n.steps)
 
-    pub least_on-next : from + u ≤ high → least_on low high step (leb b) ≡ At (from + u)
+    pub least_on-next : from + u ≤ high → least_on low high step (leb b) ≡ Some (from + u)
     least_on-next h =
         least_on-is low high step p (leb b) (from + u)
         (record {
@@ -145,7 +144,7 @@ module _ (low high step b from : ℕ) (p : 0 < step) (q : from ≡ max low b) wh
           least = nearest;
         })
 
-    pub least_on-next-past : high < from + u → least_on low high step (leb b) ≡ Nothing
+    pub least_on-next-past : high < from + u → least_on low high step (leb b) ≡ None
     least_on-next-past h =
         least_on-none low high step p (leb b)
         (λ y a. fails (leb b y) (λ t. let g = nearest y a t in omega (arith, a.within)))
@@ -156,8 +155,8 @@ pub least_on-same :
     least_on low high step ok ≡ least_on low high step ok'
 least_on-same low high step p ok ok' same = by_cases (least_on low high step ok') refl
   where
-    by_cases : (f : Found) → least_on low high step ok' ≡ f → least_on low high step ok ≡ f
-    by_cases (At x) e =
+    by_cases : (f : Option ℕ) → least_on low high step ok' ≡ f → least_on low high step ok ≡ f
+    by_cases (Some x) e =
         let r = least_on-least low high step p ok' x e in
         least_on-is low high step p ok x
         (record {
@@ -165,4 +164,4 @@ least_on-same low high step p ok ok' same = by_cases (least_on low high step ok'
           passes = same x r.available ∙ r.passes;
           least = λ y a t. r.least y a (sym (same y a) ∙ t);
         })
-    by_cases Nothing e = least_on-none low high step p ok (λ y a. same y a ∙ least_on-nothing low high step p ok' e y a)
+    by_cases None e = least_on-none low high step p ok (λ y a. same y a ∙ least_on-nothing low high step p ok' e y a)

@@ -1,7 +1,5 @@
 -- The values that a relay offers: low, low + step, .. up to high [01 §2, fields 12 to 14]. Definitions only.
-use Rattle.std.specs.Prelude.{◌≡◌, Bool, true, ℕ, ◌+◌, ◌-◌, ◌*◌, ◌/◌, ◌≤◌}
-use Rattle.fold.specs.declared.Found.{Found}
-use Rattle.fold.specs.declared.Found.TheVariants.{At, Nothing}
+use Rattle.std.specs.Prelude.{◌≡◌, Bool, true, ℕ, ◌+◌, ◌-◌, ◌*◌, ◌/◌, ◌≤◌, Option, Some, None}
 use Rattle.fold.specs.First.{first}
 
 -- x is one of the values low, low + step, .. up to high
@@ -21,10 +19,10 @@ unfoldable pub count : ℕ → ℕ → ℕ → ℕ
 count low high step = (high + step - low) / step
 
 -- the value that stands m steps above low
-unfoldable pub value_at : ℕ → ℕ → Found → Found
-value_at low step (At m) = At (low + m * step)
-value_at low step Nothing = Nothing
+unfoldable pub value_at : ℕ → ℕ → Option ℕ → Option ℕ
+value_at low step (Some m) = Some (low + m * step)
+value_at low step None = None
 
 -- the least available value that passes the test `ok`
-unfoldable pub least_on : ℕ → ℕ → ℕ → (ℕ → Bool) → Found
+unfoldable pub least_on : ℕ → ℕ → ℕ → (ℕ → Bool) → Option ℕ
 least_on low high step ok = value_at low step (first (λ m. ok (low + m * step)) 0 (count low high step))

@@ -5,7 +5,6 @@ ghost use Rattle.std.specs.Prelude.{◌≡◌, max, leb};
 ghost use Rattle.grid.specs.Grid.{least_on};
 ghost use Rattle.grid.specs.Round.{ceil_div};
 
-use fold::Found;
 
 // The greater of two numbers.
 pub fn greater(a: u64, b: u64) -> u64
@@ -26,21 +25,21 @@ pub fn ceil_div(n: u64, d: u64) -> u64
 }
 
 // The least value of the grid at or above the bound.
-pub fn least_on(low: u64, high: u64, step: u64, bound: u64) -> Found
+pub fn least_on(low: u64, high: u64, step: u64, bound: u64) -> Option<u64>
     ensures { result ≡ least_on low high step (leb bound) }
 {
     if step == 0 {
-        return Found::Nothing;
+        return None;
     }
     let from = greater(low, bound);
     if high < from {
-        return Found::Nothing;
+        return None;
     }
     let past = (from - low) % step;
     let up = if past == 0 { 0 } else { step - past };
     if high - from < up {
-        Found::Nothing
+        None
     } else {
-        Found::At(from + up)
+        Some(from + up)
     }
 }

@@ -1,4 +1,5 @@
 -- The test 9 CARD exactly: a card in range passes, and any other is refused at the first row that is out of range.
+use Rattle.std.proofs.Common.{Option, Some, None}
 use mathlib.Core.Path.{◌≡◌, refl, sym, ap, ◌∙◌, subst}
 use mathlib.Core.Bool.{Bool, true, false, not}
 use mathlib.Core.Logic.{◌↔◌}
@@ -6,8 +7,6 @@ use mathlib.Core.List.{List}
 use Prim.Native.Nat.{ℕ, ◌+◌, ◌≤◌, ◌<◌}
 use native.Mathlib.Omega.{arith}
 use borrow.Author.Tests.{not-false, not-true, eq-eqb, ne_eqb}
-use Rattle.fold.specs.declared.Found.{Found}
-use Rattle.fold.specs.declared.Found.TheVariants.{At, Nothing}
 use Rattle.fold.specs.First.{first}
 use Rattle.fold.specs.Fold.{every}
 use Rattle.fold.proofs.BoolLaws.{fails, not-both}
@@ -95,11 +94,11 @@ module _ (t c : List ℕ) (j : ℕ) where
     righted-fails h p = sym (every-fails (column_right t c j) column_count k h (judged ∙ p))
 
 module _ (l : List ℕ) (i : ℕ) (c : List ℕ) where
-  pub card-refuses : (j : ℕ) → first (λ j. not (card_right l i c j)) 0 (rows l) ≡ At j → Refused (Card (j + 1)) ≡ card_test l i c
+  pub card-refuses : (j : ℕ) → first (λ j. not (card_right l i c j)) 0 (rows l) ≡ Some j → Refused (Card (j + 1)) ≡ card_test l i c
   unfolding card_test card_answer
   card-refuses j e = rw e
 
-  pub card-passes : first (λ j. not (card_right l i c j)) 0 (rows l) ≡ Nothing → Passed ≡ card_test l i c
+  pub card-passes : first (λ j. not (card_right l i c j)) 0 (rows l) ≡ None → Passed ≡ card_test l i c
   unfolding card_test card_answer
   card-passes e = rw e
 
@@ -120,8 +119,8 @@ module _ (l : List ℕ) (i : ℕ) (c : List ℕ) where
       given : {t : Tested} → CardGets l i c t → CardGets l i c (card_test l i c)
       given g = subst (CardGets l i c) (sym (get-card g)) g
 
-      by_cases : (f : Found) → first (λ j. not (card_right l i c j)) 0 (rows l) ≡ f → CardGets l i c (card_test l i c)
-      by_cases (At j) e =
+      by_cases : (f : Option ℕ) → first (λ j. not (card_right l i c j)) 0 (rows l) ≡ f → CardGets l i c (card_test l i c)
+      by_cases (Some j) e =
           let f = first-at (λ j. not (card_right l i c j)) (rows l) 0 j e in
           given
           (CardGets.CARD j
@@ -130,7 +129,7 @@ module _ (l : List ℕ) (i : ℕ) (c : List ℕ) where
             rows_before = λ m b. card-fits l i c m (not-false _ (f.before m (omega arith) b));
             out = λ r. not-both (fits-card l i c j r) (not-true _ f.passes);
           }))
-      by_cases Nothing e =
+      by_cases None e =
           given
           (CardGets.passed
           (λ j h. card-fits l i c j (not-false _ (first-nothing (λ j. not (card_right l i c j)) (rows l) 0 e j (omega arith) (omega arith)))))

@@ -1,9 +1,7 @@
 -- [01 §4], [02 §1, §3] 9 CARD: the numbers of a lent card that a replacement may start from, and the first row that is named where one is
 -- out of range: as a reader would say it, and as the test that is proved to say exactly that. l is the list as it would be, i the replaced row.
 -- Rows are counted from 0. Definitions only.
-use Rattle.std.specs.Prelude.{Bool, not, cond, List, ℕ, ◌+◌, ◌<◌, eqb}
-use Rattle.fold.specs.declared.Found.{Found}
-use Rattle.fold.specs.declared.Found.TheVariants.{At, Nothing}
+use Rattle.std.specs.Prelude.{Bool, not, cond, List, ℕ, ◌+◌, ◌<◌, eqb, Option, Some, None}
 use Rattle.fold.specs.First.{first}
 use Rattle.fold.specs.Fold.{every}
 use Rattle.answers.specs.declared.Answer.TheVariants.{Card}
@@ -46,9 +44,9 @@ within_table table c j = every column_count (column_right table c j)
 abbrev pub card_right : List ℕ → ℕ → List ℕ → ℕ → Bool
 card_right l i c j = within_table (column_bounds_to (lent_most l i j)) c j
 
-unfoldable pub card_answer : Found → Tested
-card_answer (At j) = Refused (Card (j + 1))
-card_answer Nothing = Passed
+unfoldable pub card_answer : Option ℕ → Tested
+card_answer (Some j) = Refused (Card (j + 1))
+card_answer None = Passed
 
 unfoldable pub card_test : List ℕ → ℕ → List ℕ → Tested
 card_test l i c = card_answer (first (λ j. not (card_right l i c j)) 0 (rows l))

@@ -16,7 +16,6 @@ ghost use Rattle.path.specs.Ready.{RowReady, FoundReady, ClimbReady, RestReady, 
 
 use answers::{Answer, Tested};
 use feeding::{LINKS, link};
-use fold::Found;
 use layout::{
     AT_FEEDER, AT_PRIMARY, COLUMNS, CardRow, FIELDS, card_row_at, column_at, column_bounds,
     field_at, in_bounds, put_card_row, row_at, same_card_row,
@@ -68,7 +67,7 @@ fn card_right(
 }
 
 // The first card row out of range.
-fn first_card_wrong(list: &[u64], i: usize, card: &[u64]) -> Found
+fn first_card_wrong(list: &[u64], i: usize, card: &[u64]) -> Option<u64>
     requires { rows list.now * column_count ≤ length card.now }
     ensures { result ≡ first (λ j. not (card_right list.now i card.now j)) 0 (rows list.now) }
 {
@@ -78,11 +77,11 @@ fn first_card_wrong(list: &[u64], i: usize, card: &[u64]) -> Found
     let mut j = 0;
     while j < n {
         if !card_right(list, i, card, &unrated, &rated, j) {
-            return Found::At(j as u64);
+            return Some(j as u64);
         }
         j += 1;
     }
-    Found::Nothing
+    None
 }
 
 // 9 CARD over all rows ascending, every column of each [02 §1, §3], row i being the replaced one.
@@ -91,8 +90,8 @@ pub fn test_card(list: &[u64], i: usize, card: &[u64]) -> Tested
     ensures { result ≡ card_test list.now i card.now }
 {
     match first_card_wrong(list, i, card) {
-        Found::At(j) => Tested::Refused(Answer::Card(j + 1)),
-        Found::Nothing => Tested::Passed,
+        Some(j) => Tested::Refused(Answer::Card(j + 1)),
+        None => Tested::Passed,
     }
 }
 

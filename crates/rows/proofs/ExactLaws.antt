@@ -1,4 +1,5 @@
 -- The tests 2 to 5 exactly: each ends as it does where the list is so, at the first row and field, and no other way.
+use Rattle.std.proofs.Common.{Option, Some, None}
 use mathlib.Core.Path.{◌≡◌, refl, sym, ap, ◌∙◌, subst}
 use mathlib.Core.Bool.{Bool, true, false, cond}
 use mathlib.Core.Logic.{◌⊎◌, ◌↔◌, inl, inr, ⊎_elim}
@@ -11,8 +12,6 @@ use borrow.Author.Tests.{eqb-true, eqb-false, leb-true, leb-false, not-false, no
 use Rattle.answers.specs.declared.Answer.TheVariants.{Field}
 use Rattle.answers.specs.declared.Tested.{Tested}
 use Rattle.answers.specs.declared.Tested.TheVariants.{Refused}
-use Rattle.fold.specs.declared.Found.{Found}
-use Rattle.fold.specs.declared.Found.TheVariants.{At, Nothing}
 use Rattle.fold.specs.First.{first}
 use Rattle.fold.proofs.BoolLaws.{passes-or-fails, fails, not-both, lt-or-le}
 use Rattle.fold.proofs.FirstLaws.{first-at, first-is, first-none, first-nothing}
@@ -119,7 +118,7 @@ module _ (l : List ℕ) (few : rows l ≤ rows_most) where
       right : (m : ℕ) → FieldInRange l i m → field_right l i m ≡ true
       right m = in-range-field l i (omega (arith, f.inside)) m
 
-      none : ((m : ℕ) → m < field_count → FieldInRange l i m) → first (field_wrong l i) 0 field_count ≡ Nothing
+      none : ((m : ℕ) → m < field_count → FieldInRange l i m) → first (field_wrong l i) 0 field_count ≡ None
       none all = first-none (field_wrong l i) field_count 0 (λ m a b. rw (right m (all m (omega arith))))
 
   -- and the field that is named for it
@@ -140,9 +139,9 @@ module _ (l : List ℕ) (few : rows l ≤ rows_most) where
         (inr (inr (record { fields-right = right; low-at-most-high = leb-true _ _ d; above = leb-false _ _ e; named = refl })))
     order-named right true true d e n = absurd (n refl)
 
-    fault-named : (found : Found) → first (field_wrong l i) 0 field_count ≡ found → (fault_after (order_fault l i) found ≡ 0 → ⊥) → Fault
+    fault-named : (found : Option ℕ) → first (field_wrong l i) 0 field_count ≡ found → (fault_after (order_fault l i) found ≡ 0 → ⊥) → Fault
     unfolding fault_after order_fault high_right
-    fault-named (At k) e n =
+    fault-named (Some k) e n =
         let a = first-at (field_wrong l i) field_count 0 k e in
         named k
         (inl
@@ -151,7 +150,7 @@ module _ (l : List ℕ) (few : rows l ≤ rows_most) where
           fields-before = λ m b. field-in-range l i m (not-false _ (a.before m (omega arith) b));
           wrong = λ r. not-both (in-range-field l i (omega arith) k r) (not-true _ a.passes);
         }))
-    fault-named Nothing e n =
+    fault-named None e n =
         order-named (λ m b. field-in-range l i m (not-false _ (first-nothing (field_wrong l i) field_count 0 e m (omega arith) (omega arith))))
         (leb (field l i at_low) (field l i at_high)) (leb (field l i at_high * field l i at_primary) (100000000 * field l i at_secondary)) refl refl n
 
@@ -183,10 +182,10 @@ module _ (l : List ℕ) (few : rows l ≤ rows_most) where
       given : {t : Tested} → RowsGet l t → RowsGet l (rows_test l)
       given g = subst (RowsGet l) (sym (get_rows g)) g
 
-      by-tree : InRange l → (f : Found) → first (fed_wrongly l) 0 (rows l) ≡ f → RowsGet l (rows_test l)
-      by-tree a Nothing e =
+      by-tree : InRange l → (f : Option ℕ) → first (fed_wrongly l) 0 (rows l) ≡ f → RowsGet l (rows_test l)
+      by-tree a None e =
           given (RowsGet.passed a (λ i h. right-feeds l i h (not-false _ (first-nothing (fed_wrongly l) (rows l) 0 e i (omega arith) (omega arith)))))
-      by-tree a (At i) e =
+      by-tree a (Some i) e =
           let f = first-at (fed_wrongly l) (rows l) 0 i e in
           let h : i < rows l = omega (arith, f.below) in
           given
@@ -197,12 +196,12 @@ module _ (l : List ℕ) (few : rows l ≤ rows_most) where
             misfed = λ r. not-both (feeds-right l i h r) (not-true _ f.passes);
           }))
 
-      by_field : (f : Found) → first (row_at_fault l) 0 (rows l) ≡ f → RowsGet l (rows_test l)
-      by_field Nothing e =
+      by_field : (f : Option ℕ) → first (row_at_fault l) 0 (rows l) ≡ f → RowsGet l (rows_test l)
+      by_field None e =
           by-tree
           (λ i h. no-fault-row l i (eqb-true _ _ (not-false _ (first-nothing (row_at_fault l) (rows l) 0 e i (omega arith) (omega arith)))))
           (first (fed_wrongly l) 0 (rows l)) refl
-      by_field (At i) e =
+      by_field (Some i) e =
           let f = first-at (row_at_fault l) (rows l) 0 i e in
           let n : (k : ℕ) × FirstOutOfRange l i k =
           fault-of i (omega (arith, f.below))

@@ -1,4 +1,5 @@
 -- The tests of a field, a row and its feeding pass exactly what is in range and feeds as section 2 says; what the rows of such a list are.
+use Rattle.std.proofs.Common.{Option, Some, None}
 use mathlib.Core.Path.{◌≡◌, refl, ap, ap₂}
 use mathlib.Core.Bool.{Bool, true, false, not, cond, ◌&&◌, ◌||◌}
 use mathlib.Core.Logic.{◌⊎◌, ◌↔◌, inl, inr, ⊎_elim}
@@ -8,8 +9,6 @@ use native.Mathlib.Omega.{arith}
 use lib.Dec.{leb, ltb, eqb}
 use borrow.Author.Tests.{eqb-true, eqb-false, ltb-true, leb-true, not-false, not-true, ne_eqb, eq-eqb, le-leb, lt-leb, lt-ltb}
 use Rattle.layout.specs.Counts.{field_count, rows_most}
-use Rattle.fold.specs.declared.Found.{Found}
-use Rattle.fold.specs.declared.Found.TheVariants.{At, Nothing}
 use Rattle.fold.specs.First.{first}
 use Rattle.fold.proofs.BoolLaws.{and_left, and_right, and_both, implies, implied, passes-or-fails, lt-or-le, zero-not-one}
 use Rattle.fold.proofs.FirstLaws.{first-none, first-nothing}
@@ -71,15 +70,15 @@ module _ (l : List ℕ) (i : ℕ) where
       }
 
   -- a row without fault has its fields right, and they are in order
-  no-fault-none : (f : Found) (o : ℕ) → fault_after o f ≡ 0 → f ≡ Nothing
+  no-fault-none : (f : Option ℕ) (o : ℕ) → fault_after o f ≡ 0 → f ≡ None
   unfolding fault_after
-  no-fault-none (At k) o e = absurd (omega arith)
-  no-fault-none Nothing o e = refl
+  no-fault-none (Some k) o e = absurd (omega arith)
+  no-fault-none None o e = refl
 
-  no-fault-order : (f : Found) (o : ℕ) → fault_after o f ≡ 0 → o ≡ 0
+  no-fault-order : (f : Option ℕ) (o : ℕ) → fault_after o f ≡ 0 → o ≡ 0
   unfolding fault_after
-  no-fault-order (At k) o e = absurd (omega arith)
-  no-fault-order Nothing o e = e
+  no-fault-order (Some k) o e = absurd (omega arith)
+  no-fault-order None o e = e
 
   no-fault-fields : row_fault l i ≡ 0 → (k : ℕ) → k < field_count → field_right l i k ≡ true
   unfolding row_fault
@@ -200,20 +199,20 @@ module _ (l : List ℕ) (i : ℕ) (h : i < rows l) where
 -- ---- the two tests over all rows
 
 module _ (l : List ℕ) where
-  tree-passed : (f : Found) → tree_answer f ≡ Passed → f ≡ Nothing
+  tree-passed : (f : Option ℕ) → tree_answer f ≡ Passed → f ≡ None
   unfolding tree_answer
-  tree-passed (At i) e = absurd (zero-not-one cc)
-  tree-passed Nothing e = refl
+  tree-passed (Some i) e = absurd (zero-not-one cc)
+  tree-passed None e = refl
 
-  fields-passed : (f : Found) (t : Tested) → field_answer l t f ≡ Passed → f ≡ Nothing
+  fields-passed : (f : Option ℕ) (t : Tested) → field_answer l t f ≡ Passed → f ≡ None
   unfolding field_answer
-  fields-passed (At i) t e = absurd (zero-not-one cc)
-  fields-passed Nothing t e = refl
+  fields-passed (Some i) t e = absurd (zero-not-one cc)
+  fields-passed None t e = refl
 
-  then-passed : (f : Found) (t : Tested) → field_answer l t f ≡ Passed → t ≡ Passed
+  then-passed : (f : Option ℕ) (t : Tested) → field_answer l t f ≡ Passed → t ≡ Passed
   unfolding field_answer
-  then-passed (At i) t e = absurd (zero-not-one cc)
-  then-passed Nothing t e = e
+  then-passed (Some i) t e = absurd (zero-not-one cc)
+  then-passed None t e = e
 
   pub passed-in-range : rows_test l ≡ Passed → InRange l
   unfolding rows_test
@@ -228,11 +227,11 @@ module _ (l : List ℕ) where
       (not-false _ (first-nothing (fed_wrongly l) (rows l) 0 (tree-passed _ (then-passed _ _ e)) i (omega arith) (omega arith)))
 
   -- no row is at fault, and none fed wrongly
-  pub in-range-none : rows l ≤ rows_most → InRange l → first (row_at_fault l) 0 (rows l) ≡ Nothing
+  pub in-range-none : rows l ≤ rows_most → InRange l → first (row_at_fault l) 0 (rows l) ≡ None
   in-range-none few a =
       first-none (row_at_fault l) (rows l) 0 (λ i x y. rw (eq-eqb _ _ (row-no-fault l i (omega arith) (a i (omega arith)))))
 
-  pub feeds-none : Feeds l → first (fed_wrongly l) 0 (rows l) ≡ Nothing
+  pub feeds-none : Feeds l → first (fed_wrongly l) 0 (rows l) ≡ None
   feeds-none b = first-none (fed_wrongly l) (rows l) 0 (λ i x y. rw (feeds-right l i (omega arith) (b i (omega arith))))
 
   pub in-range-passes : rows l ≤ rows_most → InRange l → Feeds l → rows_test l ≡ Passed

@@ -1,4 +1,5 @@
 -- Laws of the tests 2 to 5, one for each way that a test ends.
+use Rattle.std.proofs.Common.{Option, Some, None}
 use mathlib.Core.Path.{◌≡◌, refl, sym, ◌∙◌}
 use mathlib.Core.Bool.{Bool, true, false, not, cond, ◌&&◌}
 use mathlib.Core.List.{List}
@@ -10,8 +11,6 @@ use Rattle.fold.proofs.FirstLaws.{first-at, first-is, first-none, first-nothing}
 use mathlib.Core.Logic.{⊎_elim}
 use native.Mathlib.Omega.{arith}
 use borrow.Author.Tests.{eqb-true, leb-true, le-leb, lt-leb, lt-ltb, le-ltb, eq-eqb, ne_eqb}
-use Rattle.fold.specs.declared.Found.{Found}
-use Rattle.fold.specs.declared.Found.TheVariants.{At, Nothing}
 use Rattle.fold.specs.First.{first}
 use Rattle.answers.specs.declared.Answer.{Answer}
 use Rattle.answers.specs.declared.Answer.TheVariants.{Count, Room, Field, Tree}
@@ -25,22 +24,22 @@ use Rattle.rows.specs.Tests.{feeds_right, fed_wrongly, size_test, field_answer, 
 module _ (l : List ℕ) (i : ℕ) where
   -- a search in two parts, below m and from m on
   module _ (m : ℕ) (h : m ≤ field_count) where
-    pub wrong-before : (k : ℕ) → first (field_wrong l i) 0 m ≡ At k → first (field_wrong l i) 0 field_count ≡ At k
+    pub wrong-before : (k : ℕ) → first (field_wrong l i) 0 m ≡ Some k → first (field_wrong l i) 0 field_count ≡ Some k
     wrong-before k e =
         let f = first-at (field_wrong l i) m 0 k e in
         first-is (field_wrong l i) field_count 0 k (omega arith) (omega (arith, f.below)) f.passes f.before
 
-    module _ (none : first (field_wrong l i) 0 m ≡ Nothing) where
+    module _ (none : first (field_wrong l i) 0 m ≡ None) where
       right-before : (j : ℕ) → j < m → field_wrong l i j ≡ false
       right-before j g = first-nothing (field_wrong l i) m 0 none j (omega arith) (omega arith)
 
-      pub wrong-behind : (k : ℕ) → first (field_wrong l i) m (field_count - m) ≡ At k → first (field_wrong l i) 0 field_count ≡ At k
+      pub wrong-behind : (k : ℕ) → first (field_wrong l i) m (field_count - m) ≡ Some k → first (field_wrong l i) 0 field_count ≡ Some k
       wrong-behind k e =
           let f = first-at (field_wrong l i) (field_count - m) m k e in
           first-is (field_wrong l i) field_count 0 k (omega arith) (omega (arith, f.below)) f.passes
           (λ j _ g. ⊎_elim (λ (b : j < m). right-before j b) (λ (b : m ≤ j). f.before j b g) (lt-or-le j m))
 
-      pub none-wrong : first (field_wrong l i) m (field_count - m) ≡ Nothing → first (field_wrong l i) 0 field_count ≡ Nothing
+      pub none-wrong : first (field_wrong l i) m (field_count - m) ≡ None → first (field_wrong l i) 0 field_count ≡ None
       none-wrong e =
           first-none (field_wrong l i) field_count 0
           (λ j _ g.
@@ -49,11 +48,11 @@ module _ (l : List ℕ) (i : ℕ) where
           (λ (b : m ≤ j). first-nothing (field_wrong l i) (field_count - m) m e j b (omega arith))
           (lt-or-le j m))
 
-  pub fault-found : (k : ℕ) → first (field_wrong l i) 0 field_count ≡ At k → k + 1 ≡ row_fault l i
+  pub fault-found : (k : ℕ) → first (field_wrong l i) 0 field_count ≡ Some k → k + 1 ≡ row_fault l i
   unfolding row_fault fault_after
   fault-found k e = rw e
 
-  pub fault-after : (x : ℕ) → first (field_wrong l i) 0 field_count ≡ Nothing → x ≡ order_fault l i → x ≡ row_fault l i
+  pub fault-after : (x : ℕ) → first (field_wrong l i) 0 field_count ≡ None → x ≡ order_fault l i → x ≡ row_fault l i
   unfolding row_fault fault_after
   fault-after x e h = rw e h
 
@@ -88,11 +87,11 @@ module _ (l : List ℕ) where
   pub row-right : (i f : ℕ) → f ≡ row_fault l i → f ≡ 0 → row_at_fault l i ≡ false
   row-right i f q h = rw (← q, eq-eqb f 0 h)
 
-  pub fields-found : (i f : ℕ) → f ≡ row_fault l i → first (row_at_fault l) 0 (rows l) ≡ At i → Refused (Field (i + 1) f) ≡ fields_test l
+  pub fields-found : (i f : ℕ) → f ≡ row_fault l i → first (row_at_fault l) 0 (rows l) ≡ Some i → Refused (Field (i + 1) f) ≡ fields_test l
   unfolding fields_test field_answer
   fields-found i f q e = rw (e, q)
 
-  pub fields-none : first (row_at_fault l) 0 (rows l) ≡ Nothing → Passed ≡ fields_test l
+  pub fields-none : first (row_at_fault l) 0 (rows l) ≡ None → Passed ≡ fields_test l
   unfolding fields_test field_answer
   fields-none e = rw e
 
@@ -101,23 +100,23 @@ module _ (l : List ℕ) where
   unfolding rows_test fields_test field_answer
   rows-refused t a q e = by_cases (first (row_at_fault l) 0 (rows l)) (sym q ∙ e)
     where
-      by_cases : (f : Found) → field_answer l Passed f ≡ Refused a → Refused a ≡ field_answer l (tree_test l) f
-      by_cases (At i) g = sym g
-      by_cases Nothing g = absurd (zero-not-one cc)
+      by_cases : (f : Option ℕ) → field_answer l Passed f ≡ Refused a → Refused a ≡ field_answer l (tree_test l) f
+      by_cases (Some i) g = sym g
+      by_cases None g = absurd (zero-not-one cc)
 
   pub rows-tree : (t u : Tested) → t ≡ fields_test l → t ≡ Passed → u ≡ tree_test l → u ≡ rows_test l
   unfolding rows_test fields_test field_answer
   rows-tree t u q e v = by_cases (first (row_at_fault l) 0 (rows l)) (sym q ∙ e)
     where
-      by_cases : (f : Found) → field_answer l Passed f ≡ Passed → u ≡ field_answer l (tree_test l) f
-      by_cases (At i) g = absurd (zero-not-one cc)
-      by_cases Nothing g = v
+      by_cases : (f : Option ℕ) → field_answer l Passed f ≡ Passed → u ≡ field_answer l (tree_test l) f
+      by_cases (Some i) g = absurd (zero-not-one cc)
+      by_cases None g = v
 
-  pub tree-found : (i : ℕ) → first (fed_wrongly l) 0 (rows l) ≡ At i → Refused (Tree (i + 1)) ≡ tree_test l
+  pub tree-found : (i : ℕ) → first (fed_wrongly l) 0 (rows l) ≡ Some i → Refused (Tree (i + 1)) ≡ tree_test l
   unfolding tree_test tree_answer
   tree-found i e = rw e
 
-  pub tree-none : first (fed_wrongly l) 0 (rows l) ≡ Nothing → Passed ≡ tree_test l
+  pub tree-none : first (fed_wrongly l) 0 (rows l) ≡ None → Passed ≡ tree_test l
   unfolding tree_test tree_answer
   tree-none e = rw e
 

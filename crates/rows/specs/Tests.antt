@@ -1,9 +1,7 @@
 -- [01 §2, §4], [02 §1] When a list is in range and feeds as section 2 says, and which refusal it gets otherwise.
 -- Rows and fields are counted from 0; places in answers from 1. Definitions only.
-use Rattle.std.specs.Prelude.{List, Bool, not, cond, ◌&&◌, ◌||◌, ℕ, ◌+◌, ◌-◌, ◌*◌, ◌/◌, ◌%◌, leb, ltb, eqb}
+use Rattle.std.specs.Prelude.{List, Bool, not, cond, ◌&&◌, ◌||◌, ℕ, ◌+◌, ◌-◌, ◌*◌, ◌/◌, ◌%◌, leb, ltb, eqb, Option, Some, None}
 use Rattle.layout.specs.Counts.{field_count, column_count, list_most}
-use Rattle.fold.specs.declared.Found.{Found}
-use Rattle.fold.specs.declared.Found.TheVariants.{At, Nothing}
 use Rattle.fold.specs.First.{first}
 use Rattle.answers.specs.declared.Answer.TheVariants.{Count, Room, Field, Tree}
 use Rattle.answers.specs.declared.Tested.{Tested}
@@ -36,9 +34,9 @@ abbrev pub field_wrong : List ℕ → ℕ → ℕ → Bool
 field_wrong l i k = not (field_right l i k)
 
 -- the first field at fault of a row, from 1, or 0: the fields' own ranges first
-unfoldable pub fault_after : ℕ → Found → ℕ
-fault_after order (At k) = k + 1
-fault_after order Nothing = order
+unfoldable pub fault_after : ℕ → Option ℕ → ℕ
+fault_after order (Some k) = k + 1
+fault_after order None = order
 
 unfoldable pub row_fault : List ℕ → ℕ → ℕ
 row_fault l i = fault_after (order_fault l i) (first (λ k. not (field_right l i k)) 0 field_count)
@@ -61,9 +59,9 @@ size_test len room =
 abbrev pub fed_wrongly : List ℕ → ℕ → Bool
 fed_wrongly l i = not (feeds_right l i)
 
-unfoldable pub tree_answer : Found → Tested
-tree_answer (At i) = Refused (Tree (i + 1))
-tree_answer Nothing = Passed
+unfoldable pub tree_answer : Option ℕ → Tested
+tree_answer (Some i) = Refused (Tree (i + 1))
+tree_answer None = Passed
 
 unfoldable pub tree_test : List ℕ → Tested
 tree_test l = tree_answer (first (fed_wrongly l) 0 (rows l))
@@ -72,9 +70,9 @@ tree_test l = tree_answer (first (fed_wrongly l) 0 (rows l))
 abbrev pub row_at_fault : List ℕ → ℕ → Bool
 row_at_fault l i = not (eqb (row_fault l i) 0)
 
-unfoldable pub field_answer : List ℕ → Tested → Found → Tested
-field_answer l next (At i) = Refused (Field (i + 1) (row_fault l i))
-field_answer l next Nothing = next
+unfoldable pub field_answer : List ℕ → Tested → Option ℕ → Tested
+field_answer l next (Some i) = Refused (Field (i + 1) (row_fault l i))
+field_answer l next None = next
 
 unfoldable pub fields_test : List ℕ → Tested
 fields_test l = field_answer l Passed (first (row_at_fault l) 0 (rows l))

@@ -12,7 +12,6 @@ ghost use Rattle.rows.specs.Tests.{rating_right, field_right, field_wrong, high_
 ghost use Rattle.rows.specs.Tests.{size_test, tree_test, fields_test, rows_test};
 
 use answers::{Answer, Tested};
-use fold::Found;
 use layout::{
     AT_FEEDER, AT_HIGH, AT_KIND, AT_LOW, AT_PRIMARY, AT_SECONDARY, COLUMNS, FIELDS, LIST, field_at,
     field_bounds, in_bounds,
@@ -82,18 +81,18 @@ fn order_fault(list: &[u64], i: usize) -> u64
 }
 
 // The first field from one on, and below another, that is not right by itself.
-fn first_wrong(list: &[u64], table: &[u64], i: usize, from: usize, to: usize) -> Found
+fn first_wrong(list: &[u64], table: &[u64], i: usize, from: usize, to: usize) -> Option<u64>
     requires { (i * field_count + field_count ≤ length list.now) × (table.now ≡ bounds_at list.now i) × (from ≤ to) × (to ≤ field_count) }
     ensures { result ≡ first (field_wrong list.now i) from (to - from) }
 {
     let mut k = from;
     while k < to {
         if !field_right(list, table, i, k) {
-            return Found::At(k as u64);
+            return Some(k as u64);
         }
         k += 1;
     }
-    Found::Nothing
+    None
 }
 
 // Half of the fields: a loop over so many is compiled without a branch back, with the bounds as constants; one over all is not.
@@ -118,10 +117,10 @@ fn plain_fault(list: &[u64], table: &[u64], i: usize) -> u64
     ensures { result ≡ row_fault list.now i }
 {
     match first_wrong(list, table, i, 0, HALF) {
-        Found::At(k) => k + 1,
-        Found::Nothing => match first_wrong(list, table, i, HALF, FIELDS) {
-            Found::At(k) => k + 1,
-            Found::Nothing => plain_order(list, i),
+        Some(k) => k + 1,
+        None => match first_wrong(list, table, i, HALF, FIELDS) {
+            Some(k) => k + 1,
+            None => plain_order(list, i),
         },
     }
 }
@@ -132,10 +131,10 @@ fn fault_by(list: &[u64], table: &[u64], i: usize) -> u64
     ensures { result ≡ row_fault list.now i }
 {
     match first_wrong(list, table, i, 0, HALF) {
-        Found::At(k) => k + 1,
-        Found::Nothing => match first_wrong(list, table, i, HALF, FIELDS) {
-            Found::At(k) => k + 1,
-            Found::Nothing => order_fault(list, i),
+        Some(k) => k + 1,
+        None => match first_wrong(list, table, i, HALF, FIELDS) {
+            Some(k) => k + 1,
+            None => order_fault(list, i),
         },
     }
 }
@@ -189,18 +188,18 @@ fn feeds_right(list: &[u64], i: usize) -> bool
 }
 
 // The first row that is fed wrongly.
-fn first_fed_wrongly(list: &[u64]) -> Found
+fn first_fed_wrongly(list: &[u64]) -> Option<u64>
     ensures { result ≡ first (fed_wrongly list.now) 0 (rows list.now) }
 {
     let n = list.len() / FIELDS;
     let mut i = 0;
     while i < n {
         if !feeds_right(list, i) {
-            return Found::At(i as u64);
+            return Some(i as u64);
         }
         i += 1;
     }
-    Found::Nothing
+    None
 }
 
 // 5 TREE over all rows ascending.
@@ -208,8 +207,8 @@ fn test_tree(list: &[u64]) -> Tested
     ensures { result ≡ tree_test list.now }
 {
     match first_fed_wrongly(list) {
-        Found::At(i) => Tested::Refused(Answer::Tree(i + 1)),
-        Found::Nothing => Tested::Passed,
+        Some(i) => Tested::Refused(Answer::Tree(i + 1)),
+        None => Tested::Passed,
     }
 }
 

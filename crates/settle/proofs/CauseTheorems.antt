@@ -7,6 +7,7 @@
 --     none-exists-exactly         none does exactly when one of them applies
 --     own-zone-true, backup-true  where P3, or P4 for a fed row, fails for the candidate, it fails for every available pickup meeting P1 and P2
 -- Of a row's settling, SettledTheorems.antt says the same: `no-pickup-exactly`, `range-exactly`.
+use Rattle.std.proofs.Common.{Option, Some, None}
 use mathlib.Core.Path.{◌≡◌, refl, sym, ◌∙◌, subst}
 use mathlib.Core.Bool.{true, false}
 use mathlib.Core.Logic.{◌↔◌, ◌⊎◌, inl, inr, ⊎_elim}
@@ -15,8 +16,6 @@ use native.Mathlib.Nat.{mul-le-mul_left, mul-le-mul_right, le_trans}
 use native.Mathlib.Omega.{arith}
 use Rattle.answers.specs.declared.Cause.{Cause}
 use Rattle.answers.specs.declared.Cause.TheVariants.{Range}
-use Rattle.fold.specs.declared.Found.{Found}
-use Rattle.fold.specs.declared.Found.TheVariants.{At, Nothing}
 use Rattle.fold.proofs.BoolLaws.{passes-or-fails, fails, not-both, zero-not-one, lt-or-le}
 use Rattle.layout.specs.View.{View, Settings}
 use Rattle.settle.specs.declared.Picked.{Picked}
@@ -92,7 +91,7 @@ module _ (v : View) (k : Settings) (i : ℕ) where
       }
 
 module _ (v : View) (k : Settings) (i : ℕ) (p : 0 < (v.row i).step.0) where
-  pub candidate-exactly : (x : ℕ) → (candidate v k i ≡ At x) ↔ Candidate v k i (keyed x)
+  pub candidate-exactly : (x : ℕ) → (candidate v k i ≡ Some x) ↔ Candidate v k i (keyed x)
   unfolding candidate
   candidate-exactly x = (
     λ e.
@@ -111,7 +110,7 @@ module _ (v : View) (k : Settings) (i : ℕ) (p : 0 < (v.row i).step.0) where
         }),
   )
 
-  pub no-candidate-exactly : (candidate v k i ≡ Nothing) ↔ NoCandidate v k i
+  pub no-candidate-exactly : (candidate v k i ≡ None) ↔ NoCandidate v k i
   unfolding candidate
   no-candidate-exactly = (
     λ e x a h. not-both ((lower-exactly v k i _).1 h) ((none-exactly (v.row i) p (meets_lower v k i)).0 e x a),
@@ -130,14 +129,14 @@ module _ (v : View) (k : Settings) (i : ℕ) (p : 0 < (v.row i).step.0) where
   comes = by-least (candidate v k i) refl
     where
       by-fed :
-          (x : Secondary) → Candidate v k i x → SeesOwnZone v i (primary_of (v.row i) x) → (f : Found) →
+          (x : Secondary) → Candidate v k i x → SeesOwnZone v i (primary_of (v.row i) x) → (f : Option ℕ) →
           first_unbacked v i (v.row i) (primary_of (v.row i) x) ≡ f → Comes (by_backup x f)
-      by-fed x m z Nothing e = (m, record { P1-P2 = m.lower-met; P3 = z; P4 = (backed-all-exactly v i _).0 e })
-      by-fed x m z (At j) e = BACKUP x j m z ((unbacked-exactly v i _ j).0 e)
+      by-fed x m z None e = (m, record { P1-P2 = m.lower-met; P3 = z; P4 = (backed-all-exactly v i _).0 e })
+      by-fed x m z (Some j) e = BACKUP x j m z ((unbacked-exactly v i _ j).0 e)
 
-      by-least : (f : Found) → candidate v k i ≡ f → Comes (picked (v.row i) f (first_unbacked v i (v.row i)))
-      by-least Nothing e = RANGE (no-candidate-exactly.0 e)
-      by-least (At x) e =
+      by-least : (f : Option ℕ) → candidate v k i ≡ f → Comes (picked (v.row i) f (first_unbacked v i (v.row i)))
+      by-least None e = RANGE (no-candidate-exactly.0 e)
+      by-least (Some x) e =
           let I = primary_of (v.row i) (keyed x) in
           ⊎_elim
           (λ (z : sees_own_zone (v.row i) I ≡ true).

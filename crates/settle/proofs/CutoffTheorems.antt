@@ -1,11 +1,10 @@
 -- The cutoff is fitted exactly as section 3 says, and the card shows it so. The step above 0 is section 2's. Read with
 -- specs/Inequalities.antt.
+use Rattle.std.proofs.Common.{Option, Some, None}
 use mathlib.Core.Path.{◌≡◌, refl, sym, ◌∙◌, subst}
 use mathlib.Core.Bool.{true, false}
 use mathlib.Core.Logic.{◌↔◌, ⊎_elim}
 use Prim.Native.Nat.{ℕ, ◌<◌}
-use Rattle.fold.specs.declared.Found.{Found}
-use Rattle.fold.specs.declared.Found.TheVariants.{At, Nothing}
 use Rattle.fold.proofs.BoolLaws.{passes-or-fails, fails, not-both}
 use Rattle.layout.specs.declared.Row.{Row}
 use Rattle.settle.specs.declared.Cutoff.{Cutoff}
@@ -21,7 +20,7 @@ use Rattle.settle.proofs.LeastPickupLaws.{least-exactly, none-exactly}
 use Rattle.settle.proofs.OutcomeLaws.{cutoff-fitted, cutoff-blind, cutoff-none}
 
 module _ (r : Row) (p : 0 < r.step.0) where
-  cutoff-pickup : (C : ℕ) → least_pickup r (stays_clear r) ≡ At C → CutoffPickup r (keyed C)
+  cutoff-pickup : (C : ℕ) → least_pickup r (stays_clear r) ≡ Some C → CutoffPickup r (keyed C)
   cutoff-pickup C e =
       let m = (least-exactly r p (stays_clear r) C).0 e in
       record {
@@ -30,7 +29,7 @@ module _ (r : Row) (p : 0 < r.step.0) where
         least = λ x a h. m.least x a ((clear-exactly r (primary_of r x)).1 h);
       }
 
-  pickup-of-cutoff : (C : Secondary) → CutoffPickup r C → least_pickup r (stays_clear r) ≡ At C.0
+  pickup-of-cutoff : (C : Secondary) → CutoffPickup r C → least_pickup r (stays_clear r) ≡ Some C.0
   pickup-of-cutoff C m =
       (least-exactly r p (stays_clear r) C.0).1
       (record {
@@ -39,15 +38,15 @@ module _ (r : Row) (p : 0 < r.step.0) where
         least = λ x a t. m.least x a ((clear-exactly r _).0 t);
       })
 
-  found-one : {C x : ℕ} → At C ≡ At x → C ≡ x
+  found-one : {C x : ℕ} → Some C ≡ Some x → C ≡ x
   found-one e = cc
 
   -- the cutoff is fitted at C exactly where C is the least that stays clear, and it sees its near fault
   pub cutoff-exactly : (c : Cutoff) → (cutoff_of r ≡ c) ↔ CutoffIs r c
   cutoff-exactly c = (λ e. subst (CutoffIs r) e (is (least_pickup r (stays_clear r)) refl), λ h. so h)
     where
-      is : (f : Found) → least_pickup r (stays_clear r) ≡ f → CutoffIs r (cutoff_of r)
-      is (At C) e =
+      is : (f : Option ℕ) → least_pickup r (stays_clear r) ≡ f → CutoffIs r (cutoff_of r)
+      is (Some C) e =
           ⊎_elim
           (λ (s : sees_near r (primary_of r (keyed C)) ≡ true).
           subst (CutoffIs r) (cutoff-fitted r C e s) (fitted (keyed C) (cutoff-pickup C e) ((near-exactly r _).0 s)))
@@ -58,17 +57,17 @@ module _ (r : Row) (p : 0 < r.step.0) where
           let C≡x = found-one (sym e ∙ pickup-of-cutoff x m) in
           not-both ((near-exactly r (primary_of r x)).1 n) (subst (λ (y : ℕ). sees_near r (primary_of r (keyed y)) ≡ false) C≡x s))))
           (passes-or-fails (sees_near r (primary_of r (keyed C))))
-      is Nothing e =
+      is None e =
           subst (CutoffIs r) (cutoff-none r e)
           (not-fitted (λ x m n. not-both ((clear-exactly r (primary_of r x)).1 m.stays-clear)
           ((none-exactly r p (stays_clear r)).0 e x m.available)))
 
       none :
-          (f : Found) → least_pickup r (stays_clear r) ≡ f → ((C : Secondary) → CutoffPickup r C → SeesNear r (primary_of r C) → ⊥) →
+          (f : Option ℕ) → least_pickup r (stays_clear r) ≡ f → ((C : Secondary) → CutoffPickup r C → SeesNear r (primary_of r C) → ⊥) →
           cutoff_of r ≡ NotFitted
-      none (At C) e n =
+      none (Some C) e n =
           sym (cutoff-blind r C e (fails (sees_near r (primary_of r (keyed C))) (λ s. n (keyed C) (cutoff-pickup C e) ((near-exactly r _).0 s))))
-      none Nothing e n = sym (cutoff-none r e)
+      none None e n = sym (cutoff-none r e)
 
       so : {c : Cutoff} → CutoffIs r c → cutoff_of r ≡ c
       so (fitted C m n) = sym (cutoff-fitted r C.0 (pickup-of-cutoff C m) ((near-exactly r (primary_of r C)).1 n))

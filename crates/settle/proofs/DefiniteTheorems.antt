@@ -3,6 +3,7 @@
 --     D1-definite, D2-definite    the two lines
 --     no-curve-definite           CURVE is not given
 --     definite-time-met           what meets D1 and D2 meets them at any pickups
+use Rattle.std.proofs.Common.{None}
 use mathlib.Core.Path.{◌≡◌, sym, ap, ◌∙◌, subst}
 use mathlib.Core.Bool.{true}
 use mathlib.Core.Logic.{◌↔◌}
@@ -10,7 +11,6 @@ use Prim.Native.Nat.{ℕ, ◌+◌, ◌≤◌, ◌<◌}
 use native.Mathlib.Omega.{arith}
 use Rattle.curve.specs.Curve.{time_of}
 use Rattle.curve.proofs.CurveLaws.{definite-time}
-use Rattle.fold.specs.declared.Found.TheVariants.{Nothing}
 use Rattle.layout.specs.declared.CardRow.{CardRow}
 use Rattle.layout.specs.declared.Row.{Row}
 use Rattle.layout.specs.View.{View, Settings}
@@ -65,7 +65,7 @@ module _ (v : View) (i : ℕ) (own : (v.row i).law ≡ 0) where
       }
 
   pub no-curve-definite :
-      (k : Settings) (I : Primary) → ((j : ℕ) → j < v.count → Feeding v i j → (k j).law ≡ 0) → stalled v k i (v.row i) I ≡ Nothing
+      (k : Settings) (I : Primary) → ((j : ℕ) → j < v.count → Feeding v i j → (k j).law ≡ 0) → stalled v k i (v.row i) I ≡ None
   no-curve-definite k I below = (runs-all-exactly v k i I).1 (runs-all k I below)
 
   -- and pickups do not matter, neither the row's own nor those below

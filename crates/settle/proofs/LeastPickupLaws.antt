@@ -1,9 +1,9 @@
 -- [02 §1] The least available pickup that passes a test of its primary current: least as it is keyed is least in primary.
+use Rattle.std.proofs.Common.{Some, None}
 use mathlib.Core.Path.{◌≡◌}
 use mathlib.Core.Bool.{Bool, true, false}
 use mathlib.Core.Logic.{◌↔◌}
 use Prim.Native.Nat.{ℕ, ◌≤◌, ◌<◌}
-use Rattle.fold.specs.declared.Found.TheVariants.{At, Nothing}
 use Rattle.grid.proofs.GridLaws.{least_on-least, least_on-nothing, least_on-is, least_on-none}
 use Rattle.layout.specs.declared.Row.{Row}
 use Rattle.sides.specs.declared.Primary.{Primary}
@@ -24,7 +24,7 @@ module _ (r : Row) (p : 0 < r.step.0) (ok : Primary → Bool) where
   abbrev passing : ℕ → Bool
   passing x = ok (primary_of r (keyed x))
 
-  pub least-exactly : (x : ℕ) → (least_pickup r ok ≡ At x) ↔ LeastPassing r ok (keyed x)
+  pub least-exactly : (x : ℕ) → (least_pickup r ok ≡ Some x) ↔ LeastPassing r ok (keyed x)
   least-exactly x = (
     λ e.
         let m = least_on-least _ _ _ p passing x e in
@@ -42,7 +42,7 @@ module _ (r : Row) (p : 0 < r.step.0) (ok : Primary → Bool) where
         }),
   )
 
-  pub none-exactly : (least_pickup r ok ≡ Nothing) ↔ ((y : Secondary) → AvailableOn r y → ok (primary_of r y) ≡ false)
+  pub none-exactly : (least_pickup r ok ≡ None) ↔ ((y : Secondary) → AvailableOn r y → ok (primary_of r y) ≡ false)
   none-exactly = (
     λ e y a. least_on-nothing _ _ _ p passing e y.0 a,
     λ n. least_on-none _ _ _ p passing (λ y a. n (keyed y) a),

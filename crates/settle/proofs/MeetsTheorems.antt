@@ -1,12 +1,12 @@
 -- The conditions of a pickup's load, and P4 of all fed rows: the tests that the contracts cite pass exactly where
 -- section 3's inequalities hold, those of fed rows for each row that is fed. Read with specs/Inequalities.antt.
+use Rattle.std.proofs.Common.{Some, None}
 use mathlib.Core.Path.{◌≡◌}
 use mathlib.Core.Bool.{Bool, true, false, not, ◌||◌}
 use mathlib.Core.Logic.{◌↔◌, ⊎_elim}
 use Prim.Native.Nat.{ℕ, ◌<◌}
 use native.Mathlib.Omega.{arith}
 use borrow.Author.Tests.{not-true}
-use Rattle.fold.specs.declared.Found.TheVariants.{At, Nothing}
 use Rattle.fold.proofs.BoolLaws.{and_left, and_right, and_both, fails, not-both, passes-or-fails, implies, implied}
 use Rattle.fold.proofs.FirstLaws.{first-at, first-is, first-none, first-nothing}
 use Rattle.fold.proofs.FoldLaws.{every-at, every_of}
@@ -67,7 +67,7 @@ module _ (v : View) (i : ℕ) (I : Primary) where
   )
 
   -- row j is the first that fails
-  pub unbacked-exactly : (j : ℕ) → (first_unbacked v i (v.row i) I ≡ At j) ↔ FirstUnbacked v i I j
+  pub unbacked-exactly : (j : ℕ) → (first_unbacked v i (v.row i) I ≡ Some j) ↔ FirstUnbacked v i I j
   unfolding first_unbacked unbacked
   unbacked-exactly j = (
     λ e.
@@ -86,7 +86,7 @@ module _ (v : View) (i : ℕ) (I : Primary) where
 
   -- none fails
   pub backed-all-exactly :
-      (first_unbacked v i (v.row i) I ≡ Nothing) ↔ ((j : ℕ) → j < v.count → Feeding v i j → BacksUp v i j I)
+      (first_unbacked v i (v.row i) I ≡ None) ↔ ((j : ℕ) → j < v.count → Feeding v i j → BacksUp v i j I)
   unfolding first_unbacked
   backed-all-exactly = (
     λ e j b. (backed-exactly j).0 (first-nothing (unbacked v i (v.row i) I) v.count 0 e j (omega arith) (omega arith)),

@@ -1,4 +1,5 @@
 -- The cutoff, a row's pickup, its second stage and its outcome, one law for each way that they end.
+use Rattle.std.proofs.Common.{Option, Some, None}
 use mathlib.Core.Path.{◌≡◌, refl, sym, ap, ◌∙◌}
 use mathlib.Core.Bool.{Bool, true, false, cond}
 use Prim.Native.Nat.{ℕ, ◌*◌, ◌≤◌, ◌<◌}
@@ -10,8 +11,6 @@ use Rattle.fold.proofs.FirstLaws.{first_below}
 use Rattle.answers.specs.declared.Cause.{Cause}
 use Rattle.answers.specs.declared.Cause.TheVariants.{Range, OwnZone}
 use Rattle.answers.specs.declared.Reason.TheVariants.{Pickup, Curve, Delay}
-use Rattle.fold.specs.declared.Found.{Found}
-use Rattle.fold.specs.declared.Found.TheVariants.{At, Nothing}
 use Rattle.grid.specs.Grid.{least_on}
 use Rattle.grid.proofs.GridLaws.{least_on-least}
 use Rattle.layout.specs.declared.Row.{Row}
@@ -47,7 +46,7 @@ module _ (r : Row) where
       least_on r.low.0 r.high.0 r.step.0 (leb b) ≡ least_pickup r (stays_clear r)
   cutoff-least b bound = λ t. least_on r.low.0 r.high.0 r.step.0 (λ x. bound x t)
 
-  module _ (x : ℕ) (e : least_pickup r (stays_clear r) ≡ At x) where
+  module _ (x : ℕ) (e : least_pickup r (stays_clear r) ≡ Some x) where
     by-sight : {b : Bool} → sees_near r (primary_of r (keyed x)) ≡ b → cutoff_of r ≡ cond b (Fitted (keyed x)) NotFitted
     unfolding cutoff_of fitting
     by-sight s = ap (fitting r) e ∙ ap (λ (b : Bool). cond b (Fitted (keyed x)) NotFitted) s
@@ -58,12 +57,12 @@ module _ (r : Row) where
     pub cutoff-blind : sees_near r (primary_of r (keyed x)) ≡ false → NotFitted ≡ cutoff_of r
     cutoff-blind s = sym (by-sight s)
 
-  pub cutoff-none : least_pickup r (stays_clear r) ≡ Nothing → NotFitted ≡ cutoff_of r
+  pub cutoff-none : least_pickup r (stays_clear r) ≡ None → NotFitted ≡ cutoff_of r
   unfolding cutoff_of fitting
   cutoff-none e = rw e
 
 -- a fed row that is found is a row of the list
-pub unbacked-below : (v : View) (i : ℕ) (r : Row) (x : Primary) {j : ℕ} → first_unbacked v i r x ≡ At j → j < v.count
+pub unbacked-below : (v : View) (i : ℕ) (r : Row) (x : Primary) {j : ℕ} → first_unbacked v i r x ≡ Some j → j < v.count
 unfolding first_unbacked
 unbacked-below v i r x e = first_below (unbacked v i r x) e
 
@@ -73,11 +72,11 @@ by_time r x (Setting t) = Set (record { pickup = x; law = r.law; setting = t; cu
 by_time r x (Stalled place) = Unset (Curve place)
 by_time r x NoSetting = Unset Delay
 
-as-timed : (r : Row) (x : Secondary) (a b : Found) → timed r x a b ≡ by_time r x (timed_by a b)
+as-timed : (r : Row) (x : Secondary) (a b : Option ℕ) → timed r x a b ≡ by_time r x (timed_by a b)
 unfolding timed timed_by
-as-timed r x (At place) b = refl
-as-timed r x Nothing Nothing = refl
-as-timed r x Nothing (At t) = refl
+as-timed r x (Some place) b = refl
+as-timed r x None None = refl
+as-timed r x None (Some t) = refl
 
 -- row i, by its fields r, settled by what its fed rows ask
 module _ (v : View) (i : ℕ) (r : Row) (f : Fed) where
@@ -95,23 +94,23 @@ module _ (v : View) (i : ℕ) (r : Row) (f : Fed) where
     judge-fits z u = rw (← q, z, u)
 
     pub judge-searched :
-        sees_own_zone r I ≡ true → backs_up_all r f I ≡ false → (a : Found) → first_unbacked v i r I ≡ a → by_backup x a ≡ comes
+        sees_own_zone r I ≡ true → backs_up_all r f I ≡ false → (a : Option ℕ) → first_unbacked v i r I ≡ a → by_backup x a ≡ comes
     unfolding judged unbacked_by
     judge-searched z u a g = rw (← q, z, u, g)
 
   -- the least available pickup from the bound on, where P1 and P2 hold
   module _ (b : ℕ) (bound : (x : ℕ) → leb b x ≡ lower_by r f (primary_of r (keyed x))) where
-    abbrev from : Found
+    abbrev from : Option ℕ
     from = least_on r.low.0 r.high.0 r.step.0 (leb b)
 
     least-from : from ≡ least_pickup r (lower_by r f)
     least-from = λ t. least_on r.low.0 r.high.0 r.step.0 (λ x. bound x t)
 
-    pub pick-none : from ≡ Nothing → Unfit Range ≡ picked_by v i r f
+    pub pick-none : from ≡ None → Unfit Range ≡ picked_by v i r f
     unfolding picked_by picked
     pick-none e = rw (← least-from, e)
 
-    pub pick-judged : (x : ℕ) → from ≡ At x → judged r (keyed x) (unbacked_by v i r f (primary_of r (keyed x))) ≡ picked_by v i r f
+    pub pick-judged : (x : ℕ) → from ≡ Some x → judged r (keyed x) (unbacked_by v i r f (primary_of r (keyed x))) ≡ picked_by v i r f
     unfolding picked_by picked
     pick-judged x e = rw (← least-from, e)
 
@@ -131,45 +130,45 @@ module _ (v : View) (i : ℕ) (r : Row) (f : Fed) where
         rw (e, q)
 
 -- what must hold where a row's outcome is this or that: a is its pickup, `slow` and `least` are the second stage by the pickup
-pub record OutcomeIs (r : Row) (a : Picked) (slow least : Primary → Found) (o : Outcome) : Type 0 where
+pub record OutcomeIs (r : Row) (a : Picked) (slow least : Primary → Option ℕ) (o : Outcome) : Type 0 where
   pub pickup-fits : a ≡ Fits o.pickup
-  pub runs : slow (primary_of r o.pickup) ≡ Nothing
-  pub setting-found : least (primary_of r o.pickup) ≡ At o.setting
+  pub runs : slow (primary_of r o.pickup) ≡ None
+  pub setting-found : least (primary_of r o.pickup) ≡ Some o.setting
   pub law-is : o.law ≡ r.law
   pub cutoff-is : o.cutoff ≡ cutoff_of r
 
-pub record CurveFound (r : Row) (a : Picked) (slow : Primary → Found) (place : ℕ) : Type 0 where
+pub record CurveFound (r : Row) (a : Picked) (slow : Primary → Option ℕ) (place : ℕ) : Type 0 where
   pub pickup : Secondary
   pub pickup-fits : a ≡ Fits pickup
-  pub stalls-at : slow (primary_of r pickup) ≡ At place
+  pub stalls-at : slow (primary_of r pickup) ≡ Some place
 
-pub record NoneFound (r : Row) (a : Picked) (slow least : Primary → Found) : Type 0 where
+pub record NoneFound (r : Row) (a : Picked) (slow least : Primary → Option ℕ) : Type 0 where
   pub pickup : Secondary
   pub pickup-fits : a ≡ Fits pickup
-  pub runs : slow (primary_of r pickup) ≡ Nothing
-  pub none_found : least (primary_of r pickup) ≡ Nothing
+  pub runs : slow (primary_of r pickup) ≡ None
+  pub none_found : least (primary_of r pickup) ≡ None
 
 module _ (r : Row) where
   same_outcome : (o o' : Outcome) → Set o ≡ Set o' → o ≡ o'
   same_outcome o o' e = cc
 
-  module _ (slow least : Primary → Found) where
+  module _ (slow least : Primary → Option ℕ) where
     pub outcome-set : (a : Picked) (o : Outcome) → outcome_of r a slow least ≡ Set o → OutcomeIs r a slow least o
     unfolding outcome_of timed
     outcome-set (Unfit why) o e = absurd (zero-not-one cc)
     outcome-set (Fits x) o e = by_cases (slow (primary_of r x)) refl (least (primary_of r x)) refl e
       where
         by_cases :
-            (a : Found) → slow (primary_of r x) ≡ a → (b : Found) → least (primary_of r x) ≡ b → timed r x a b ≡ Set o →
+            (a : Option ℕ) → slow (primary_of r x) ≡ a → (b : Option ℕ) → least (primary_of r x) ≡ b → timed r x a b ≡ Set o →
             OutcomeIs r (Fits x) slow least o
-        by_cases (At place) g b h e = absurd (zero-not-one cc)
-        by_cases Nothing g Nothing h e = absurd (zero-not-one cc)
-        by_cases Nothing g (At t) h e =
+        by_cases (Some place) g b h e = absurd (zero-not-one cc)
+        by_cases None g None h e = absurd (zero-not-one cc)
+        by_cases None g (Some t) h e =
             let q = same_outcome (record { pickup = x; law = r.law; setting = t; cutoff = cutoff_of r }) o e in
             record {
               pickup-fits = ap (λ (o : Outcome). Fits o.pickup) q;
               runs = ap (λ (o : Outcome). slow (primary_of r o.pickup)) (sym q) ∙ g;
-              setting-found = ap (λ (o : Outcome). least (primary_of r o.pickup)) (sym q) ∙ h ∙ ap (λ (o : Outcome). At o.setting) q;
+              setting-found = ap (λ (o : Outcome). least (primary_of r o.pickup)) (sym q) ∙ h ∙ ap (λ (o : Outcome). Some o.setting) q;
               law-is = sym (ap (λ (o : Outcome). o.law) q);
               cutoff-is = sym (ap (λ (o : Outcome). o.cutoff) q);
             }
@@ -179,10 +178,10 @@ module _ (r : Row) where
     outcome-no-pickup (Unfit x) why e = let q : x ≡ why = cc in ap Unfit q
     outcome-no-pickup (Fits x) why e = by_cases (slow (primary_of r x)) (least (primary_of r x)) e
       where
-        by_cases : (a b : Found) → timed r x a b ≡ Unset (Pickup why) → Fits x ≡ Unfit why
-        by_cases (At place) b e = absurd (zero-not-one cc)
-        by_cases Nothing Nothing e = absurd (zero-not-one cc)
-        by_cases Nothing (At t) e = absurd (zero-not-one cc)
+        by_cases : (a b : Option ℕ) → timed r x a b ≡ Unset (Pickup why) → Fits x ≡ Unfit why
+        by_cases (Some place) b e = absurd (zero-not-one cc)
+        by_cases None None e = absurd (zero-not-one cc)
+        by_cases None (Some t) e = absurd (zero-not-one cc)
 
     pub outcome-curve : (a : Picked) (place : ℕ) → outcome_of r a slow least ≡ Unset (Curve place) → CurveFound r a slow place
     unfolding outcome_of timed
@@ -190,12 +189,12 @@ module _ (r : Row) where
     outcome-curve (Fits x) place e = by_cases (slow (primary_of r x)) refl (least (primary_of r x)) e
       where
         by_cases :
-            (a : Found) → slow (primary_of r x) ≡ a → (b : Found) → timed r x a b ≡ Unset (Curve place) → CurveFound r (Fits x) slow place
-        by_cases (At p) g b e =
+            (a : Option ℕ) → slow (primary_of r x) ≡ a → (b : Option ℕ) → timed r x a b ≡ Unset (Curve place) → CurveFound r (Fits x) slow place
+        by_cases (Some p) g b e =
             let q : p ≡ place = cc in
-            record { pickup = x; pickup-fits = refl; stalls-at = g ∙ ap At q }
-        by_cases Nothing g Nothing e = absurd (zero-not-one cc)
-        by_cases Nothing g (At t) e = absurd (zero-not-one cc)
+            record { pickup = x; pickup-fits = refl; stalls-at = g ∙ ap Some q }
+        by_cases None g None e = absurd (zero-not-one cc)
+        by_cases None g (Some t) e = absurd (zero-not-one cc)
 
     pub outcome-no-delay : (a : Picked) → outcome_of r a slow least ≡ Unset Delay → NoneFound r a slow least
     unfolding outcome_of timed
@@ -203,21 +202,21 @@ module _ (r : Row) where
     outcome-no-delay (Fits x) e = by_cases (slow (primary_of r x)) refl (least (primary_of r x)) refl e
       where
         by_cases :
-            (a : Found) → slow (primary_of r x) ≡ a → (b : Found) → least (primary_of r x) ≡ b → timed r x a b ≡ Unset Delay →
+            (a : Option ℕ) → slow (primary_of r x) ≡ a → (b : Option ℕ) → least (primary_of r x) ≡ b → timed r x a b ≡ Unset Delay →
             NoneFound r (Fits x) slow least
-        by_cases (At place) g b h e = absurd (zero-not-one cc)
-        by_cases Nothing g Nothing h e = record { pickup = x; pickup-fits = refl; runs = g; none_found = h }
-        by_cases Nothing g (At t) h e = absurd (zero-not-one cc)
+        by_cases (Some place) g b h e = absurd (zero-not-one cc)
+        by_cases None g None h e = record { pickup = x; pickup-fits = refl; runs = g; none_found = h }
+        by_cases None g (Some t) h e = absurd (zero-not-one cc)
 
   -- a pickup that fits is the least that was found
-  pub picked-found : (a : Found) (fails : Primary → Found) (I : Secondary) → picked r a fails ≡ Fits I → a ≡ At I.0
+  pub picked-found : (a : Option ℕ) (fails : Primary → Option ℕ) (I : Secondary) → picked r a fails ≡ Fits I → a ≡ Some I.0
   unfolding picked judged by_backup
-  picked-found Nothing fails I e = absurd (zero-not-one cc)
-  picked-found (At x) fails I e = by_cases (sees_own_zone r (primary_of r (keyed x))) (fails (primary_of r (keyed x))) e
+  picked-found None fails I e = absurd (zero-not-one cc)
+  picked-found (Some x) fails I e = by_cases (sees_own_zone r (primary_of r (keyed x))) (fails (primary_of r (keyed x))) e
     where
-      by_cases : (z : Bool) (f : Found) → cond z (by_backup (keyed x) f) (Unfit OwnZone) ≡ Fits I → At x ≡ At I.0
-      by_cases true Nothing e = let q : keyed x ≡ I = cc in ap (λ (y : Secondary). At y.0) q
-      by_cases true (At j) e = absurd (zero-not-one cc)
+      by_cases : (z : Bool) (f : Option ℕ) → cond z (by_backup (keyed x) f) (Unfit OwnZone) ≡ Fits I → Some x ≡ Some I.0
+      by_cases true None e = let q : keyed x ≡ I = cc in ap (λ (y : Secondary). Some y.0) q
+      by_cases true (Some j) e = absurd (zero-not-one cc)
       by_cases false f e = absurd (zero-not-one cc)
 
   -- and at most what the row's rated primary leaves it

@@ -1,10 +1,10 @@
 -- A pickup judged by the three numbers: lower bounds rounded up, and that what is found fits.
+use Rattle.std.proofs.Common.{Some}
 use mathlib.Core.Path.{◌≡◌, ap, ap₂, ◌∙◌}
 use mathlib.Core.Bool.{Bool, ◌&&◌}
 use Prim.Native.Nat.{ℕ, ◌+◌, ◌-◌, ◌*◌, ◌≤◌, max}
 use native.Mathlib.Nat.{mul-le-mul, mul_right_comm, le_trans}
 use lib.Dec.{leb}
-use Rattle.fold.specs.declared.Found.TheVariants.{At}
 use Rattle.grid.specs.Grid.{least_on}
 use Rattle.grid.proofs.GridLaws.{least_on-least}
 use Rattle.grid.proofs.RoundLaws.{max-leb}
@@ -42,7 +42,7 @@ module _ (r : Row) (f : Fed) (x : ℕ) where
 
 -- an available pickup is at most what the row's rated primary leaves it
 pub found-bounded :
-    (r : Row) → Bounded r → (ok : ℕ → Bool) (x : ℕ) → least_on r.low.0 r.high.0 r.step.0 ok ≡ At x →
+    (r : Row) → Bounded r → (ok : ℕ → Bool) (x : ℕ) → least_on r.low.0 r.high.0 r.step.0 ok ≡ Some x →
     x ≤ setting_most r.ratio.primary
 found-bounded r a ok x e =
     le_trans (least_on-least r.low.0 r.high.0 r.step.0 a.step_from ok x e).available.within a.high-to

@@ -1,5 +1,6 @@
 -- A row's least settings depend only on its own fields, on the rows that it feeds and on their settings. So rows below that
 -- agree settle it alike. Fed rows stand below their feeder.
+use Rattle.std.proofs.Common.{Option, Some, None}
 use mathlib.Core.Path.{◌≡◌, refl, ap, ◌∙◌}
 use mathlib.Core.Bool.{Bool, true, false, not, cond, ◌&&◌, ◌||◌}
 use mathlib.Core.Logic.{⊎_elim}
@@ -9,8 +10,6 @@ use native.Mathlib.Omega.{arith}
 use lib.Dec.{leb, eqb}
 use borrow.Author.Tests.{eqb-true, eqb-false}
 use Rattle.fold.specs.First.{first}
-use Rattle.fold.specs.declared.Found.{Found}
-use Rattle.fold.specs.declared.Found.TheVariants.{At, Nothing}
 use Rattle.fold.specs.Fold.{sum_to, every}
 use Rattle.fold.proofs.BoolLaws.{passes-or-fails, and_left}
 use Rattle.fold.proofs.FirstLaws.{first-same, first-at}
@@ -98,19 +97,19 @@ module _ (v v' : View) (k k' : Settings) (i : ℕ) (n : v.count ≡ v'.count) (r
       fed_stalls (fields j (omega arith) g t) (settings j (omega arith) g t) || stalls_at (r t) (fields j (omega arith) g t) I)) ∙
       ap (first (stalls_by v' k' i (v'.row i) I) 0) n
 
-  there-same : (I : Primary) (f : Found) → first_stalling v k i (v.row i) I ≡ f → stalled_there v k i f ≡ stalled_there v' k' i f
+  there-same : (I : Primary) (f : Option ℕ) → first_stalling v k i (v.row i) I ≡ f → stalled_there v k i f ≡ stalled_there v' k' i f
   unfolding first_stalling stalls_by stalled_there
-  there-same I Nothing e = refl
-  there-same I (At j) e =
+  there-same I None e = refl
+  there-same I (Some j) e =
       let m = first-at (stalls_by v k i (v.row i) I) v.count 0 j e in
       let g = and_left (fed v i j) _ m.passes in
-      λ t. At (cond (fed_stalls (fields j (omega (arith, m.below)) g t) (settings j (omega (arith, m.below)) g t)) (j + 1) (i + 1))
+      λ t. Some (cond (fed_stalls (fields j (omega (arith, m.below)) g t) (settings j (omega (arith, m.below)) g t)) (j + 1) (i + 1))
 
   stalled-same : (I : Primary) → stalled v k i (v.row i) I ≡ stalled v' k' i (v'.row i) I
   unfolding stalled
   stalled-same I =
       λ t.
-      cond (stalls_at (r t) (r t) I) (At (i + 1))
+      cond (stalls_at (r t) (r t) I) (Some (i + 1))
       ((there-same I (first_stalling v k i (v.row i) I) refl ∙ ap (stalled_there v' k' i) (stalling-same I)) t)
 
   pub settled_same : settled v k i ≡ settled v' k' i

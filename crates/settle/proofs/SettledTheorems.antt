@@ -1,12 +1,11 @@
 -- A row is settled, or refused with RANGE, OWN ZONE or BACKUP, with CURVE or with DELAY, exactly as sections 3 and 4 and requests §2 and §3
 -- say. That its fields are in range is section 2's. Read with specs/Inequalities.antt.
+use Rattle.std.proofs.Common.{Option, Some, None}
 use mathlib.Core.Path.{◌≡◌, refl, sym, ap, ◌∙◌, subst}
 use mathlib.Core.Bool.{true}
 use mathlib.Core.Logic.{◌↔◌}
 use Prim.Native.Nat.{ℕ, ◌≤◌}
 use native.Mathlib.Omega.{arith}
-use Rattle.fold.specs.declared.Found.{Found}
-use Rattle.fold.specs.declared.Found.TheVariants.{At, Nothing}
 use Rattle.fold.proofs.BoolLaws.{fails, not-both}
 use Rattle.grid.specs.Grid.{Available}
 use Rattle.grid.proofs.GridLaws.{least_on-least, least_on-nothing, least_on-is, least_on-none}
@@ -35,10 +34,10 @@ use Rattle.settle.proofs.OutcomeLaws.{outcome-set, outcome-no-pickup, outcome-cu
 
 module _ (v : View) (k : Settings) (i : ℕ) (a : Bounded (v.row i)) where
   -- the second stage, for a pickup: the row whose M is at most 1.000, and the least setting
-  abbrev slow : Primary → Found
+  abbrev slow : Primary → Option ℕ
   slow = stalled v k i (v.row i)
 
-  abbrev least : Primary → Found
+  abbrev least : Primary → Option ℕ
   least I = least_setting (v.row i) (meets_time v k i (v.row i) I)
 
   -- the pickup that is found is the least
@@ -62,7 +61,7 @@ module _ (v : View) (k : Settings) (i : ℕ) (a : Bounded (v.row i)) where
     passes x h = (time-exactly v k i I x).1 (record { D1 = h.D1; D2 = h.D2 })
 
     -- the least setting is the least that meets them
-    least-time : (x : ℕ) → (least I ≡ At x) ↔ (TimeMet v k i I x × ((y : ℕ) → TimeMet v k i I y → x ≤ y))
+    least-time : (x : ℕ) → (least I ≡ Some x) ↔ (TimeMet v k i I x × ((y : ℕ) → TimeMet v k i I y → x ≤ y))
     least-time x = (
       λ e.
           let m = least_on-least _ _ 1 (omega arith) (meets_time v k i (v.row i) I) x e in
@@ -76,7 +75,7 @@ module _ (v : View) (k : Settings) (i : ℕ) (a : Bounded (v.row i)) where
           }),
     )
 
-    none-time : (least I ≡ Nothing) ↔ NoTime v k i I
+    none-time : (least I ≡ None) ↔ NoTime v k i I
     none-time = (
       λ e y h. not-both (passes y h) (least_on-nothing _ _ 1 (omega arith) (meets_time v k i (v.row i) I) e y (tried y h)),
       λ n.

@@ -1,4 +1,5 @@
 -- [02 §3] The second stage of settling a row, one law for each way that its functions end.
+use Rattle.std.proofs.Common.{Option, Some, None}
 use mathlib.Core.Path.{◌≡◌, refl, sym, ap, ap₂, ◌∙◌}
 use mathlib.Core.Bool.{Bool, true, false, cond, ◌&&◌}
 use Prim.Native.Nat.{ℕ, ◌+◌, ◌≤◌}
@@ -6,8 +7,6 @@ use native.Mathlib.Omega.{arith}
 use lib.Dec.{leb}
 use Rattle.curve.specs.Curve.{stalls, setting_to, time_of}
 use Rattle.curve.proofs.CurveLaws.{time-to, definite-runs, definite-time, definite-setting}
-use Rattle.fold.specs.declared.Found.{Found}
-use Rattle.fold.specs.declared.Found.TheVariants.{At, Nothing}
 use Rattle.fold.proofs.BoolLaws.{not-both, zero-not-one}
 use Rattle.layout.specs.declared.CardRow.{CardRow}
 use Rattle.layout.specs.declared.Row.{Row}
@@ -69,7 +68,7 @@ module _ (v : View) (k : Settings) (i : ℕ) (r : Row) (I : Primary) (j : ℕ) w
   unfolding stalled_there
   stuck-fed e =
       let s = slow-means (v.row j) (k j) e in
-      (ap (λ (b : Bool). At (cond b (j + 1) (i + 1))) s, λ n. absurd (not-both s n))
+      (ap (λ (b : Bool). Some (cond b (j + 1) (i + 1))) s, λ n. absurd (not-both s n))
 
   module _ (t m : ℕ) (e : fed_time_of (v.row j) (k j) ≡ Takes t) (em : m ≡ needed_multiple r.law r (v.row j) I) where
     runs : fed_stalls (v.row j) (k j) ≡ false
@@ -80,7 +79,7 @@ module _ (v : View) (k : Settings) (i : ℕ) (r : Row) (I : Primary) (j : ℕ) w
 
     pub stuck-own : stalls r.law m ≡ true → WantedIs v k i r I j (Stuck (i + 1))
     unfolding stalled_there
-    stuck-own s = (ap (λ (b : Bool). At (cond b (j + 1) (i + 1))) runs, λ _. sym own_is ∙ s)
+    stuck-own s = (ap (λ (b : Bool). Some (cond b (j + 1) (i + 1))) runs, λ _. sym own_is ∙ s)
 
     pub wanted-from :
         (want b : ℕ) → stalls r.law m ≡ false → want ≡ t + margin_between r.device (v.row j).device →
@@ -119,15 +118,15 @@ definite-to f s b e =
 
 -- row i's own M is m
 module _ (v : View) (k : Settings) (i : ℕ) (r : Row) (I : Primary) (m : ℕ) (em : m ≡ needed_multiple r.law r r I) where
-  abbrev comes : Found → Found → Type 0
+  abbrev comes : Option ℕ → Option ℕ → Type 0
   comes a b = (stalled v k i r I ≡ a) × (least_setting r (meets_time v k i r I) ≡ b)
 
   own-stalls : stalls r.law m ≡ stalls_at r r I
   own-stalls = ap (stalls r.law) em ∙ needed-stalls r.law r r I
 
-  by-own : (b : Bool) → stalls r.law m ≡ b → stalled v k i r I ≡ cond b (At (i + 1)) (stalled_there v k i (first_stalling v k i r I))
+  by-own : (b : Bool) → stalls r.law m ≡ b → stalled v k i r I ≡ cond b (Some (i + 1)) (stalled_there v k i (first_stalling v k i r I))
   unfolding stalled
-  by-own b e = ap (λ (b : Bool). cond b (At (i + 1)) (stalled_there v k i (first_stalling v k i r I))) (sym own-stalls ∙ e)
+  by-own b e = ap (λ (b : Bool). cond b (Some (i + 1)) (stalled_there v k i (first_stalling v k i r I))) (sym own-stalls ∙ e)
 
   pub row-stalls : stalls r.law m ≡ true → Stalled (i + 1) ≡ timed_by (stalled v k i r I) (least_setting r (meets_time v k i r I))
   unfolding timed_by
@@ -140,7 +139,7 @@ module _ (v : View) (k : Settings) (i : ℕ) (r : Row) (I : Primary) (m : ℕ) (
     row-stuck place w = rw (by-own false e ∙ w)
 
     module _ (b : ℕ) (w : WalkIs v k i r I (From b)) where
-      runs-all : stalled v k i r I ≡ Nothing
+      runs-all : stalled v k i r I ≡ None
       unfolding stalled_there
       runs-all = by-own false e ∙ ap (stalled_there v k i) w.0
 
@@ -153,13 +152,13 @@ module _ (v : View) (k : Settings) (i : ℕ) (r : Row) (I : Primary) (m : ℕ) (
           (λ x. within_delays r ((ap (λ (m : ℕ). time_of r.law m x) em ∙ needed-time r.law r r I x) t) && w.1 x t)
 
       pub row-none :
-          least_setting r (λ x. within_delays r (time_of r.law m x) && leb b x) ≡ Nothing →
+          least_setting r (λ x. within_delays r (time_of r.law m x) && leb b x) ≡ None →
           NoSetting ≡ timed_by (stalled v k i r I) (least_setting r (meets_time v k i r I))
       unfolding timed_by
       row-none g = rw (runs-all, sym setting-from ∙ g)
 
       pub row-set :
-          (x : ℕ) → least_setting r (λ x. within_delays r (time_of r.law m x) && leb b x) ≡ At x →
+          (x : ℕ) → least_setting r (λ x. within_delays r (time_of r.law m x) && leb b x) ≡ Some x →
           Setting x ≡ timed_by (stalled v k i r I) (least_setting r (meets_time v k i r I))
       unfolding timed_by
       row-set x g = rw (runs-all, sym setting-from ∙ g)

@@ -1,5 +1,6 @@
 -- [02 §3] A row's settings: what is tried of them, what a card row shows of them, the M that are needed, and the least setting that meets D1,
 -- from a bound on: where its time is over the ceiling, so is that of every greater one.
+use Rattle.std.proofs.Common.{Some, None}
 use mathlib.Core.Path.{◌≡◌, refl, sym, ap, ◌∙◌}
 use mathlib.Core.Bool.{Bool, true, false, not, cond, ◌&&◌, ◌||◌}
 use mathlib.Core.Logic.{⊎_elim}
@@ -10,7 +11,6 @@ use lib.Dec.{leb, eqb}
 use borrow.Author.Tests.{le-leb, leb-true, eq-eqb, ne_eqb, eqb-true, eqb-false}
 use Rattle.curve.specs.Curve.{is_curve, setting_from, setting_to, stalls, time_of}
 use Rattle.curve.proofs.CurveLaws.{multiple-to, definite-runs, definite-time, definite-setting, curve-setting, time-rises}
-use Rattle.fold.specs.declared.Found.TheVariants.{At, Nothing}
 use Rattle.fold.proofs.BoolLaws.{and_left, and_right, and_both, fails, not-both, passes-or-fails}
 use Rattle.grid.specs.Grid.{least_on, Available}
 use Rattle.grid.proofs.GridLaws.{least_on-least, least_on-nothing, least_on-is, least_on-none}
@@ -124,13 +124,13 @@ module _ (law : ℕ) (r f : Row) (I : Primary) where
 -- the least value from a bound on, under a cap that holds for every lower value too
 module _ (low high b : ℕ) (cap ok : ℕ → Bool) (down : (x y : ℕ) → x ≤ y → cap y ≡ true → cap x ≡ true)
     (both : (x : ℕ) → ok x ≡ (cap x && leb b x)) where
-  pub capped-none : least_on low high 1 (leb b) ≡ Nothing → least_on low high 1 ok ≡ Nothing
+  pub capped-none : least_on low high 1 (leb b) ≡ None → least_on low high 1 ok ≡ None
   capped-none e =
       least_on-none low high 1 (omega arith) ok
       (λ y a. fails (ok y) (λ t. not-both (and_right (cap y) (leb b y) (sym (both y) ∙ t))
       (least_on-nothing low high 1 (omega arith) (leb b) e y a)))
 
-  pub capped_at : (x : ℕ) → least_on low high 1 (leb b) ≡ At x → cap x ≡ true → least_on low high 1 ok ≡ At x
+  pub capped_at : (x : ℕ) → least_on low high 1 (leb b) ≡ Some x → cap x ≡ true → least_on low high 1 ok ≡ Some x
   capped_at x e c =
       let m = least_on-least low high 1 (omega arith) (leb b) x e in
       least_on-is low high 1 (omega arith) ok x
@@ -140,7 +140,7 @@ module _ (low high b : ℕ) (cap ok : ℕ → Bool) (down : (x y : ℕ) → x �
         least = λ y a t. m.least y a (and_right (cap y) (leb b y) (sym (both y) ∙ t));
       })
 
-  pub capped-over : (x : ℕ) → least_on low high 1 (leb b) ≡ At x → cap x ≡ false → least_on low high 1 ok ≡ Nothing
+  pub capped-over : (x : ℕ) → least_on low high 1 (leb b) ≡ Some x → cap x ≡ false → least_on low high 1 ok ≡ None
   capped-over x e c =
       let m = least_on-least low high 1 (omega arith) (leb b) x e in
       least_on-none low high 1 (omega arith) ok

@@ -2,14 +2,13 @@
 --     time-exactly        a setting meets D1, and D2 for each fed row
 --     curve-exactly       CURVE names the row whose M, needed and in the order given, is the first at most 1.000
 --     runs-all-exactly    otherwise every M that is needed is over 1.000
+use Rattle.std.proofs.Common.{Option, Some, None}
 use mathlib.Core.Path.{◌≡◌, refl, ◌∙◌, subst}
 use mathlib.Core.Bool.{Bool, true, false, cond, ◌||◌}
 use mathlib.Core.Logic.{◌↔◌, ⊎_elim}
 use Prim.Native.Nat.{ℕ, ◌+◌, ◌<◌}
 use native.Mathlib.Omega.{arith}
 use Rattle.curve.proofs.CurveLaws.{stalls-exactly, runs-exactly}
-use Rattle.fold.specs.declared.Found.{Found}
-use Rattle.fold.specs.declared.Found.TheVariants.{At, Nothing}
 use Rattle.fold.proofs.BoolLaws.{and_left, and_right, and_both, or_left, or_right, fails, not-both, passes-or-fails}
 use Rattle.fold.proofs.FirstLaws.{first-at, first-is, first-none, first-nothing}
 use Rattle.layout.specs.declared.Row.{Row}
@@ -82,7 +81,7 @@ module _ (v : View) (k : Settings) (i : ℕ) (I : Primary) where
 
   -- the first fed row where an M is at most 1.000
   module _ (own : OwnRuns r I) where
-    first-slow : (j : ℕ) → first_stalling v k i r I ≡ At j → FirstSlow v k i I j
+    first-slow : (j : ℕ) → first_stalling v k i r I ≡ Some j → FirstSlow v k i I j
     unfolding first_stalling stalls_by
     first-slow j e =
         let f = first-at (stalls_by v k i r I) v.count 0 j e in
@@ -93,18 +92,18 @@ module _ (v : View) (k : Settings) (i : ℕ) (I : Primary) where
           earlier = λ x g. (by-exactly x).0 (f.before x (omega arith) g);
         }
 
-    slow-there : (j : ℕ) → first_stalling v k i r I ≡ At j → slow j ≡ true
+    slow-there : (j : ℕ) → first_stalling v k i r I ≡ Some j → slow j ≡ true
     unfolding first_stalling stalls_by
     slow-there j e = and_right (fed v i j) (slow j) (first-at (stalls_by v k i r I) v.count 0 j e).passes
 
-  slow-first : (j : ℕ) → FirstSlow v k i I j → (RunsAbove r (v.row j) (k j) I → ⊥) → first_stalling v k i r I ≡ At j
+  slow-first : (j : ℕ) → FirstSlow v k i I j → (RunsAbove r (v.row j) (k j) I → ⊥) → first_stalling v k i r I ≡ Some j
   unfolding first_stalling
   slow-first j u n =
       first-is (stalls_by v k i r I) v.count 0 j (omega arith) (omega (arith, u.is_row))
       (⊎_elim (λ t. t) (λ t. absurd (n ((by-exactly j).0 t u.feeding))) (passes-or-fails (stalls_by v k i r I j)))
       (λ x _ g. (by-exactly x).1 (u.earlier x g))
 
-  none-slow : (first_stalling v k i r I ≡ Nothing) ↔ ((j : ℕ) → j < v.count → Feeding v i j → RunsAbove r (v.row j) (k j) I)
+  none-slow : (first_stalling v k i r I ≡ None) ↔ ((j : ℕ) → j < v.count → Feeding v i j → RunsAbove r (v.row j) (k j) I)
   unfolding first_stalling
   none-slow = (
     λ e j b. (by-exactly j).0 (first-nothing (stalls_by v k i r I) v.count 0 e j (omega arith) (omega arith)),
@@ -112,9 +111,9 @@ module _ (v : View) (k : Settings) (i : ℕ) (I : Primary) where
   )
 
   -- what the search comes to
-  abbrev Comes : Found → Type 0
-  Comes (At place) = CurveIs v k i I place
-  Comes Nothing = Runs v k i I
+  abbrev Comes : Option ℕ → Type 0
+  Comes (Some place) = CurveIs v k i I place
+  Comes None = Runs v k i I
 
   comes : Comes (stalled v k i r I)
   unfolding stalled stalled_there
@@ -127,7 +126,7 @@ module _ (v : View) (k : Settings) (i : ℕ) (I : Primary) where
       (passes-or-fails (stalls_at r r I))
     where
       by_row :
-          (own : OwnRuns r I) (j : ℕ) → first_stalling v k i r I ≡ At j → (b : Bool) → fed_stalls (v.row j) (k j) ≡ b →
+          (own : OwnRuns r I) (j : ℕ) → first_stalling v k i r I ≡ Some j → (b : Bool) → fed_stalls (v.row j) (k j) ≡ b →
           CurveIs v k i I (cond b (j + 1) (i + 1))
       by_row own j e true t =
           let s = (stalls-exactly (k j).law (fed_multiple (v.row j) (k j))).0 t in
@@ -137,15 +136,15 @@ module _ (v : View) (k : Settings) (i : ℕ) (I : Primary) where
           (⊎_elim (λ u. u) (λ u. absurd (not-both (slow-there own j e) (neither _ _ t u))) (passes-or-fails (stalls_at r (v.row j) I))) in
           THERE j (first-slow own j e) ((runs-exactly (k j).law (fed_multiple (v.row j) (k j))).0 t) s.0 s.1
 
-      by-fed : OwnRuns r I → (f : Found) → first_stalling v k i r I ≡ f → Comes (stalled_there v k i f)
-      by-fed own Nothing e = record { own = own; above = none-slow.0 e }
-      by-fed own (At j) e = by_row own j e (fed_stalls (v.row j) (k j)) refl
+      by-fed : OwnRuns r I → (f : Option ℕ) → first_stalling v k i r I ≡ f → Comes (stalled_there v k i f)
+      by-fed own None e = record { own = own; above = none-slow.0 e }
+      by-fed own (Some j) e = by_row own j e (fed_stalls (v.row j) (k j)) refl
 
   of-own : OwnRuns r I → stalled v k i r I ≡ stalled_there v k i (first_stalling v k i r I)
   unfolding stalled
   of-own own = rw ((runs-exactly r.law (multiple_at r r I)).1 own)
 
-  of-curve : {place : ℕ} → CurveIs v k i I place → stalled v k i r I ≡ At place
+  of-curve : {place : ℕ} → CurveIs v k i I place → stalled v k i r I ≡ Some place
   unfolding stalled stalled_there
   of-curve (OWN a b) = rw ((stalls-exactly r.law (multiple_at r r I)).1 (a, b))
   of-curve (FED j u a b) =
@@ -155,9 +154,9 @@ module _ (v : View) (k : Settings) (i : ℕ) (I : Primary) where
       of-own u.own ∙
       rw (slow-first j u (λ h. omega (arith, h.own_runs a)), (runs-exactly (k j).law (fed_multiple (v.row j) (k j))).1 g)
 
-  pub curve-exactly : (place : ℕ) → (stalled v k i (v.row i) I ≡ At place) ↔ CurveIs v k i I place
+  pub curve-exactly : (place : ℕ) → (stalled v k i (v.row i) I ≡ Some place) ↔ CurveIs v k i I place
   curve-exactly place = (λ e. subst Comes e comes, of-curve)
 
-  pub runs-all-exactly : (stalled v k i (v.row i) I ≡ Nothing) ↔ Runs v k i I
+  pub runs-all-exactly : (stalled v k i (v.row i) I ≡ None) ↔ Runs v k i I
   unfolding stalled_there
   runs-all-exactly = (λ e. subst Comes e comes, λ h. of-own h.own ∙ rw (none-slow.1 h.above))

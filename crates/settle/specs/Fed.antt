@@ -1,9 +1,7 @@
 -- What the rows that a row feeds ask of its pickup, in three numbers, so that it is found without looking at them again, but to
 -- name the first for which P4 fails. What they ask of its time depends on the pickup found, so they are gone through for that.
 -- `gathered` says what the numbers are; that settling by them is settling by section 3 is a law. Definitions only.
-use Rattle.std.specs.Prelude.{Bool, cond, ◌&&◌, ℕ, ◌+◌, ◌-◌, ◌*◌, ◌≤◌, eqb}
-use Rattle.fold.specs.declared.Found.{Found}
-use Rattle.fold.specs.declared.Found.TheVariants.{Nothing}
+use Rattle.std.specs.Prelude.{Bool, cond, ◌&&◌, ℕ, ◌+◌, ◌-◌, ◌*◌, ◌≤◌, eqb, Option, None}
 use Rattle.fold.specs.Fold.{sum_to, max_to}
 use Rattle.layout.specs.declared.CardRow.{CardRow}
 use Rattle.layout.specs.declared.Row.{Row}
@@ -49,8 +47,8 @@ unfoldable pub backs_up_all : Row → Fed → Primary → Bool
 backs_up_all r f I = at_least (10 * (reach - f.shortfall)) (12 * I.0 * r.volts)
 
 -- the first fed row for which pickup I fails P4: the fed rows are gone through only where it fails for one of them
-unfoldable pub unbacked_by : View → ℕ → Row → Fed → Primary → Found
-unbacked_by v i r f I = cond (backs_up_all r f I) Nothing (first_unbacked v i r I)
+unfoldable pub unbacked_by : View → ℕ → Row → Fed → Primary → Option ℕ
+unbacked_by v i r f I = cond (backs_up_all r f I) None (first_unbacked v i r I)
 
 -- P1 and P2 by the three numbers, and the pickup
 unfoldable pub lower_by : Row → Fed → Primary → Bool

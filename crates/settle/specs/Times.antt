@@ -1,9 +1,7 @@
 -- [02 §3] How the second stage of settling a row goes, by what the rows that it feeds ask one by one; that it comes to what Settle.antt says
 -- is a law. Definitions only.
-use Rattle.std.specs.Prelude.{◌≡◌, true, false, cond, ℕ, leb}
+use Rattle.std.specs.Prelude.{◌≡◌, true, false, cond, ℕ, leb, Option, Some, None}
 use Rattle.curve.specs.Curve.{is_curve}
-use Rattle.fold.specs.declared.Found.{Found}
-use Rattle.fold.specs.declared.Found.TheVariants.{At, Nothing}
 use Rattle.layout.specs.declared.CardRow.{CardRow}
 use Rattle.layout.specs.declared.Row.{Row}
 use Rattle.layout.specs.View.{View, Settings}
@@ -26,21 +24,21 @@ unfoldable pub fed_time_of : Row → CardRow → FedTime
 fed_time_of f s = cond (fed_stalls f s) Slow (Takes (fed_time f s))
 
 -- CURVE before DELAY
-unfoldable pub timed_by : Found → Found → Timed
-timed_by (At place) setting = Stalled place
-timed_by Nothing Nothing = NoSetting
-timed_by Nothing (At x) = Setting x
+unfoldable pub timed_by : Option ℕ → Option ℕ → Timed
+timed_by (Some place) setting = Stalled place
+timed_by None None = NoSetting
+timed_by None (Some x) = Setting x
 
 -- what fed row j asks of row i, by its fields r and at its pickup I: its M or row i's there is at most 1.000, in this order; or the
 -- settings that meet D2 above it are those from b on
 abbrev pub WantedIs : View → Settings → ℕ → Row → Primary → ℕ → Wanted → Type 0
 WantedIs v k i r I j (Stuck place) =
-    (stalled_there v k i (At j) ≡ At place) × (((fed_stalls (v.row j) (k j) ≡ false) → (stalls_at r (v.row j) I ≡ true)))
+    (stalled_there v k i (Some j) ≡ Some place) × (((fed_stalls (v.row j) (k j) ≡ false) → (stalls_at r (v.row j) I ≡ true)))
 WantedIs v k i r I j (From b) =
     (fed_stalls (v.row j) (k j) ≡ false) × (stalls_at r (v.row j) I ≡ false) × ((x : ℕ) → leb b x ≡ graded_above r (v.row j) (k j) I x)
 
 -- what all fed rows ask
 abbrev pub WalkIs : View → Settings → ℕ → Row → Primary → Wanted → Type 0
-WalkIs v k i r I (Stuck place) = stalled_there v k i (first_stalling v k i r I) ≡ At place
+WalkIs v k i r I (Stuck place) = stalled_there v k i (first_stalling v k i r I) ≡ Some place
 WalkIs v k i r I (From b) =
-    (first_stalling v k i r I ≡ Nothing) × ((x : ℕ) → leb b x ≡ each_fed v i (λ j. graded_above r (v.row j) (k j) I x))
+    (first_stalling v k i r I ≡ None) × ((x : ℕ) → leb b x ≡ each_fed v i (λ j. graded_above r (v.row j) (k j) I x))

@@ -18,7 +18,6 @@ ghost use Rattle.settle.specs.Ready.{Listed, FedReady};
 ghost use Rattle.settle.specs.Settle.{unbacked, first_unbacked, judged, cutoff_of, printed, shown};
 
 use answers::{Cause, Reason};
-use fold::Found;
 use grid::{greater, least_on};
 use layout::{CardRow, FIELDS, Row, row_at};
 use sides::{Primary, Secondary, in_primary, least_keyed};
@@ -106,7 +105,7 @@ fn pickup_from(r: Row, f: Fed) -> Secondary
 }
 
 // The least pickup that the relay offers from a bound on.
-fn least_offered(r: Row, from: Secondary) -> Found
+fn least_offered(r: Row, from: Secondary) -> Option<u64>
     ensures { result ≡ least_on r.low.0 r.high.0 r.step.0 (leb from.0) }
 {
     least_on(r.low.0, r.high.0, r.step.0, from.0)
@@ -151,7 +150,7 @@ fn is_unbacked(list: &[u64], i: usize, r: Row, x: Primary, j: usize) -> bool
     !backs_up(r, f, x)
 }
 
-fn first_unbacked(list: &[u64], i: usize, r: Row, x: Primary) -> Found
+fn first_unbacked(list: &[u64], i: usize, r: Row, x: Primary) -> Option<u64>
     requires { Listed list.now i r × PrimaryBounded x }
     ensures { result ≡ first_unbacked (view_of list.now) i r x }
 {
@@ -159,11 +158,11 @@ fn first_unbacked(list: &[u64], i: usize, r: Row, x: Primary) -> Found
     let mut j = 0;
     while j < n {
         if is_unbacked(list, i, r, x, j) {
-            return Found::At(j as u64);
+            return Some(j as u64);
         }
         j += 1;
     }
-    Found::Nothing
+    None
 }
 
 // P3, then P4, of a pickup that meets P1 and P2. The fed rows are gone through only where their numbers say that P4 fails for one of
@@ -180,8 +179,8 @@ fn judge(list: &[u64], i: usize, r: Row, f: Fed, x: Secondary) -> Picked
         return Picked::Fits(x);
     }
     match first_unbacked(list, i, r, pickup) {
-        Found::At(j) => Picked::Unfit(Cause::Backup(j + 1)),
-        Found::Nothing => Picked::Fits(x),
+        Some(j) => Picked::Unfit(Cause::Backup(j + 1)),
+        None => Picked::Fits(x),
     }
 }
 
@@ -191,8 +190,8 @@ fn pick(list: &[u64], i: usize, r: Row, f: Fed) -> Picked
     ensures { result ≡ picked_by (view_of list.now) i r f }
 {
     match least_offered(r, pickup_from(r, f)) {
-        Found::Nothing => Picked::Unfit(Cause::Range),
-        Found::At(x) => judge(list, i, r, f, Secondary(x)),
+        None => Picked::Unfit(Cause::Range),
+        Some(x) => judge(list, i, r, f, Secondary(x)),
     }
 }
 
@@ -218,12 +217,12 @@ fn cutoff_at(r: Row) -> Cutoff
     ensures { result ≡ cutoff_of r }
 {
     match least_offered(r, cutoff_from(r)) {
-        Found::At(x) => if sees_near(r, in_primary(r.ratio, Secondary(x))) {
+        Some(x) => if sees_near(r, in_primary(r.ratio, Secondary(x))) {
             Cutoff::Fitted(Secondary(x))
         } else {
             Cutoff::NotFitted
         },
-        Found::Nothing => Cutoff::NotFitted,
+        None => Cutoff::NotFitted,
     }
 }
 

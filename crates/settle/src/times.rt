@@ -14,7 +14,6 @@ ghost use Rattle.settle.specs.Times.{needed_multiple, fed_time_of, timed_by, Wan
 use super::{FedTime, Timed, Wanted};
 use curve::{least_setting, multiple, setting_from, setting_to, stalls, time_of};
 use feeding::{first_fed, next_fed};
-use fold::Found;
 use grid::{greater, least_on};
 use layout::{AT_DEVICE, CardRow, Row, card_row_at, field_at, row_at};
 use sides::{Primary, in_primary};
@@ -148,18 +147,18 @@ fn tried_to(r: Row) -> u64
 
 // The least setting offered from a bound on that meets D1 at this M of the row's own near end. Where its time is over the ceiling, that
 // of every greater one is.
-fn least_time(r: Row, m: u64, from: u64) -> Found
+fn least_time(r: Row, m: u64, from: u64) -> Option<u64>
     requires { Bounded r × (m ≤ 20000) × (stalls r.law m ≡ false) }
     ensures { result ≡ least_setting r (λ x. within_delays r (time_of r.law m x) && leb from x) }
 {
     let motor = if r.kind == 3 { 100 } else { 0 };
     let own = least_setting(r.law, m, greater(r.floor, motor));
     match least_on(tried_from(r), tried_to(r), 1, greater(own, from)) {
-        Found::Nothing => Found::Nothing,
-        Found::At(x) => if time_of(r.law, m, x) <= r.ceiling {
-            Found::At(x)
+        None => None,
+        Some(x) => if time_of(r.law, m, x) <= r.ceiling {
+            Some(x)
         } else {
-            Found::Nothing
+            None
         },
     }
 }
@@ -184,8 +183,8 @@ pub fn time_row(
     match walk(list, links, card, i, r, pickup) {
         Wanted::Stuck(place) => Timed::Stalled(place),
         Wanted::From(from) => match least_time(r, m, from) {
-            Found::Nothing => Timed::NoSetting,
-            Found::At(x) => Timed::Setting(x),
+            None => Timed::NoSetting,
+            Some(x) => Timed::Setting(x),
         },
     }
 }

@@ -1,4 +1,5 @@
 -- A name comes next exactly where the bytes up to the next comma, or to the end, are a name.
+use Rattle.std.proofs.Common.{Option, Some, None}
 use mathlib.Core.Path.{◌≡◌, refl, ap, ◌∙◌}
 use mathlib.Core.Bool.{true, false, cond, false≢true}
 use mathlib.Core.Logic.{⊎_elim}
@@ -10,8 +11,6 @@ use lib.Dec.{eqb}
 use lib.ListN.{length, take, drop, get_or, length-append, length-take}
 use lib.Seq.{length-take-le, take-append-add, take-take}
 use borrow.Author.Tests.{ne_eqb, eqb-true, eqb-false}
-use Rattle.fold.specs.declared.Found.{Found}
-use Rattle.fold.specs.declared.Found.TheVariants.{At, Nothing}
 use Rattle.fold.proofs.BoolLaws.{passes-or-fails}
 use Rattle.cursor.specs.declared.Class.TheVariants.{Bare}
 use Rattle.cursor.specs.Bytes.{bare_byte, passes, run}
@@ -35,7 +34,7 @@ record NameSound (w : List ℕ) (n : ℕ) : Type 0 where
   some : 1 ≤ n
   form : Form (take n w)
 
-bare-found : (k n : ℕ) → bare_end 0 k ≡ At n → (1 ≤ k) × (k ≡ n)
+bare-found : (k n : ℕ) → bare_end 0 k ≡ Some n → (1 ≤ k) × (k ≡ n)
 unfolding bare_end
 bare-found k n =
     ⊎_elim
@@ -56,7 +55,7 @@ quoted-sound b t n p d =
       form = rw e f;
     }
 
-name-end-sound : (w : List ℕ) (n : ℕ) → name_end 0 w ≡ At n → NameSound w n
+name-end-sound : (w : List ℕ) (n : ℕ) → name_end 0 w ≡ Some n → NameSound w n
 unfolding name_end
 name-end-sound w n =
     ⊎_elim
@@ -64,11 +63,11 @@ name-end-sound w n =
     (λ (p : eqb (get_or w 0 0) 34 ≡ false). rw p of_bare)
     (passes-or-fails (eqb (get_or w 0 0) 34))
   where
-    of-quoted : (w : List ℕ) → eqb (get_or w 0 0) 34 ≡ true → plain_part 1 (drop 1 w) ≡ At n → NameSound w n
+    of-quoted : (w : List ℕ) → eqb (get_or w 0 0) 34 ≡ true → plain_part 1 (drop 1 w) ≡ Some n → NameSound w n
     of-quoted [] p q = absurd (false≢true p)
     of-quoted (b ∷ t) p q = quoted-sound b t n (eqb-true b 34 p) ((parts-sound t 1 n).plain-part q)
 
-    of_bare : bare_end 0 (run (passes Bare) w) ≡ At n → NameSound w n
+    of_bare : bare_end 0 (run (passes Bare) w) ≡ Some n → NameSound w n
     of_bare q =
         let r = bare-found (run (passes Bare) w) n q in
         record {
@@ -86,9 +85,9 @@ pub name-sound : (l : List ℕ) → is_name l ≡ true → NameNext l (name_leng
 unfolding is_name name_length is_found place_found
 name-sound l = by_cases (name_end 0 (take name_most l)) refl
   where
-    by_cases : (f : Found) → name_end 0 (take name_most l) ≡ f → is_found f ≡ true → NameNext l (place_found f)
-    by_cases Nothing e h = absurd (false≢true h)
-    by_cases (At n) e h =
+    by_cases : (f : Option ℕ) → name_end 0 (take name_most l) ≡ f → is_found f ≡ true → NameNext l (place_found f)
+    by_cases None e h = absurd (false≢true h)
+    by_cases (Some n) e h =
         let s = name-end-sound (take name_most l) n e in
         let m = length-take name_most l in
         let i : n ≤ length l = omega (arith, s.inside) in
@@ -99,19 +98,19 @@ name-sound l = by_cases (name_end 0 (take name_most l)) refl
           name = record { some = omega (arith, s.some); most = omega arith; form = rw (take-take n name_most l k) at s.form };
         }
 
-bare-end-suc : (n : ℕ) → bare_end 0 (suc n) ≡ At (suc n)
+bare-end-suc : (n : ℕ) → bare_end 0 (suc n) ≡ Some (suc n)
 unfolding bare_end
 bare-end-suc n = rw (ne_eqb (suc n) 0 (λ z. omega arith), zero-add (suc n))
 
 form-complete :
     {w : List ℕ} → Form w → (u : List ℕ) → 1 ≤ length w → (get_or u 0 0 ≡ 34 → ⊥) → run (passes Bare) u ≡ 0 → name_end 0
-    (w ++ u) ≡ At (length w)
+    (w ++ u) ≡ Some (length w)
 unfolding name_end
 form-complete (bare {w} h) u s q z = of_bare w h s
   where
     of_bare :
         (w : List ℕ) → All bare_byte w → 1 ≤ length w →
-        cond (eqb (get_or (w ++ u) 0 0) 34) (plain_part 1 (drop 1 (w ++ u))) (bare_end 0 (run (passes Bare) (w ++ u))) ≡ At (length w)
+        cond (eqb (get_or (w ++ u) 0 0) 34) (plain_part 1 (drop 1 (w ++ u))) (bare_end 0 (run (passes Bare) (w ++ u))) ≡ Some (length w)
     of_bare [] h s = absurd (omega arith)
     of_bare (b ∷ w) h s =
         let k : run (passes Bare) (b ∷ w ++ u) ≡ suc (length w) =
@@ -120,7 +119,7 @@ form-complete (bare {w} h) u s q z = of_bare w h s
 form-complete (quoted {w} h) u s q z =
     let e : (w ++ 34 ∷ []) ++ u ≡ w ++ 34 ∷ u = append_assoc w (34 ∷ []) u in
     let k : 1 + length w + 1 ≡ suc (length (w ++ 34 ∷ [])) = omega (arith, length-append w (34 ∷ [])) in
-    rw e (body-complete h u q 1 ∙ ap At k)
+    rw e (body-complete h u q 1 ∙ ap Some k)
 
 -- a cell ends at the line's end or before a comma
 pub data CellEnd : List ℕ → Type 0 where
@@ -145,5 +144,5 @@ name-complete w u h end =
     let v = take (name_most - length w) u in
     let r = window-rest (name_most - length w) u end in
     let e : take name_most (w ++ u) ≡ w ++ v = ap (λ (k : ℕ). take k (w ++ u)) m ∙ take-append-add w u (name_most - length w) in
-    let f : name_end 0 (take name_most (w ++ u)) ≡ At (length w) = rw e (form-complete h.form v h.some r.0 r.1) in
+    let f : name_end 0 (take name_most (w ++ u)) ≡ Some (length w) = rw e (form-complete h.form v h.some r.0 r.1) in
     record { name = rw f; long = rw f }

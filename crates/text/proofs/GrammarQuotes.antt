@@ -1,4 +1,5 @@
 -- A quoted name closes exactly behind plain bytes and doubled quotes by turns.
+use Rattle.std.proofs.Common.{Some, None}
 use mathlib.Core.Path.{◌≡◌, refl, sym, ap, ap₂, ◌∙◌}
 use mathlib.Core.Bool.{true, false, cond, not, ◌&&◌}
 use mathlib.Core.Logic.{◌⊎◌, inl, inr, ⊎_elim}
@@ -9,16 +10,15 @@ use native.Mathlib.Omega.{arith}
 use lib.Dec.{leb, eqb}
 use lib.ListN.{length, get_or}
 use borrow.Author.Tests.{ne_eqb, eqb-true, eqb-false, not-true}
-use Rattle.fold.specs.declared.Found.TheVariants.{At, Nothing}
 use Rattle.fold.proofs.BoolLaws.{and_right, passes-or-fails, zero-not-one}
 use Rattle.cursor.specs.Bytes.{plain_byte, bare_byte}
 use Rattle.cursor.specs.Pieces.{plain_part, quote_part}
 use Rattle.text.specs.Grammar.{Body, empty, plain, doubled}
 
-pub impossible : {P : Type 0} {n : ℕ} → Nothing ≡ At n → P
+pub impossible : {P : Type 0} {n : ℕ} → None ≡ Some n → P
 impossible e = absurd (zero-not-one cc)
 
-pub same_place : {m n : ℕ} → At m ≡ At n → m ≡ n
+pub same_place : {m n : ℕ} → Some m ≡ Some n → m ≡ n
 same_place e = cc
 
 -- plain bytes no quote, and what follows a closing quote
@@ -44,8 +44,8 @@ pub record Doubled (i e : ℕ) (l : List ℕ) : Type 0 where
   pub closed : Closed (i + 1) e rest
 
 pub record PartsSound (i e : ℕ) (l : List ℕ) : Type 0 where
-  pub plain-part : plain_part i l ≡ At e → Closed i e l
-  pub quote-part : quote_part i l ≡ At e → (i ≡ e) ⊎ Doubled i e l
+  pub plain-part : plain_part i l ≡ Some e → Closed i e l
+  pub quote-part : quote_part i l ≡ Some e → (i ≡ e) ⊎ Doubled i e l
 
 pub parts-sound : (l : List ℕ) (i e : ℕ) → PartsSound i e l
 unfolding plain_part
@@ -78,7 +78,7 @@ parts-sound (b ∷ l) i e =
         }
 
     of_plain :
-        PartsSound (i + 1) e l → cond (eqb b 34) (quote_part (i + 1) l) (cond (plain_byte b) (plain_part (i + 1) l) Nothing) ≡ At e → Closed i e (b ∷ l)
+        PartsSound (i + 1) e l → cond (eqb b 34) (quote_part (i + 1) l) (cond (plain_byte b) (plain_part (i + 1) l) None) ≡ Some e → Closed i e (b ∷ l)
     of_plain h =
         ⊎_elim
         (λ (p : eqb b 34 ≡ true). rw p (λ q. after-quote (eqb-true b 34 p) (h.quote-part q)))
@@ -89,7 +89,7 @@ parts-sound (b ∷ l) i e =
         (passes-or-fails (plain_byte b)))
         (passes-or-fails (eqb b 34))
 
-    of-quote : PartsSound (i + 1) e l → cond (eqb b 34) (plain_part (i + 1) l) (At i) ≡ At e → (i ≡ e) ⊎ Doubled i e (b ∷ l)
+    of-quote : PartsSound (i + 1) e l → cond (eqb b 34) (plain_part (i + 1) l) (Some i) ≡ Some e → (i ≡ e) ⊎ Doubled i e (b ∷ l)
     of-quote h =
         ⊎_elim
         (λ (p : eqb b 34 ≡ true).
@@ -98,18 +98,18 @@ parts-sound (b ∷ l) i e =
         (passes-or-fails (eqb b 34))
 
 -- a quote that no other follows closes the name
-quote-ends : (u : List ℕ) (i : ℕ) → (get_or u 0 0 ≡ 34 → ⊥) → quote_part i u ≡ At i
+quote-ends : (u : List ℕ) (i : ℕ) → (get_or u 0 0 ≡ 34 → ⊥) → quote_part i u ≡ Some i
 unfolding quote_part
 quote-ends [] i h = refl
 quote-ends (b ∷ u) i h = rw (ne_eqb b 34 h)
 
 pub body-complete :
-    {w : List ℕ} → Body w → (u : List ℕ) → (get_or u 0 0 ≡ 34 → ⊥) → (i : ℕ) → plain_part i (w ++ 34 ∷ u) ≡ At (i + length w + 1)
+    {w : List ℕ} → Body w → (u : List ℕ) → (get_or u 0 0 ≡ 34 → ⊥) → (i : ℕ) → plain_part i (w ++ 34 ∷ u) ≡ Some (i + length w + 1)
 unfolding plain_part
-body-complete empty u h i = quote-ends u (i + 1) h ∙ ap (λ (k : ℕ). At (k + 1)) (sym (add-zero i))
+body-complete empty u h i = quote-ends u (i + 1) h ∙ ap (λ (k : ℕ). Some (k + 1)) (sym (add-zero i))
 body-complete (plain {b} {l} p r) u h i =
     let e : i + 1 + length l + 1 ≡ i + suc (length l) + 1 = omega arith in
-    rw (ne_eqb b 34 (plain-no-quote b p), p) (body-complete r u h (i + 1) ∙ ap At e)
+    rw (ne_eqb b 34 (plain-no-quote b p), p) (body-complete r u h (i + 1) ∙ ap Some e)
 body-complete (doubled {l} r) u h i =
     let e : i + 1 + 1 + length l + 1 ≡ i + suc (suc (length l)) + 1 = omega arith in
-    body-complete r u h (i + 1 + 1) ∙ ap At e
+    body-complete r u h (i + 1 + 1) ∙ ap Some e

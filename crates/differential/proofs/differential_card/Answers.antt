@@ -8,10 +8,10 @@ use native.Mathlib.Omega.{arith}
 use Rattle.differential.proofs.differential_card.Goals as goal
 
 pub overflow_add-k : goal.overflow_add-k
-overflow_add-k c = omega (arith, first_below _ (sym c.first_outside.ensures ∙ c.in-At.is))
+overflow_add-k c = omega (arith, first_below _ (sym c.first_outside.ensures ∙ c.in-Some.is))
 
-pub returns-in-At : goal.returns-in-At
-returns-in-At c = c.refused.ensures ∙ input-refused _ _ (sym c.first_outside.ensures ∙ c.in-At.is)
+pub returns-in-Some : goal.returns-in-Some
+returns-in-Some c = c.refused.ensures ∙ input-refused _ _ (sym c.first_outside.ensures ∙ c.in-Some.is)
 
 pub least_slope-requires : goal.least_slope-requires
 least_slope-requires c =
@@ -21,17 +21,17 @@ least_slope-requires c =
 pub done-requires : goal.done-requires
 done-requires c = (
   (none-outside _).0 (sym c.first_outside.ensures ∙ c.in_default.is),
-  slope-to _ _ _ (sym c.least_slope.ensures ∙ c.in-At-least_slope.is),
+  slope-to _ _ _ (sym c.least_slope.ensures ∙ c.in-Some-least_slope.is),
 )
 
-pub returns-in-At-least_slope : goal.returns-in-At-least_slope
-returns-in-At-least_slope c =
+pub returns-in-Some-least_slope : goal.returns-in-Some-least_slope
+returns-in-Some-least_slope c =
     c.done.ensures
     ∙ slope-done _ _ (sym c.first_outside.ensures ∙ c.in_default.is)
-    (sym c.least_slope.ensures ∙ c.in-At-least_slope.is)
+    (sym c.least_slope.ensures ∙ c.in-Some-least_slope.is)
 
-pub returns-in-Nothing : goal.returns-in-Nothing
-returns-in-Nothing c =
-    c.refused-in-Nothing.ensures
+pub returns-in-None : goal.returns-in-None
+returns-in-None c =
+    c.refused-in-None.ensures
     ∙ slope-refused _ (sym c.first_outside.ensures ∙ c.in_default.is)
-    (sym c.least_slope.ensures ∙ c.in-Nothing.is)
+    (sym c.least_slope.ensures ∙ c.in-None.is)

@@ -6,10 +6,10 @@ use Rattle.rows.proofs.TestLaws.{tree-found, tree-none}
 use Rattle.rows.proofs.test_tree.Goals as goal
 
 pub overflow_add-result : goal.overflow_add-result
-overflow_add-result c = omega (arith, first_below _ (sym c.first_fed_wrongly.ensures ∙ c.in-At.is))
+overflow_add-result c = omega (arith, first_below _ (sym c.first_fed_wrongly.ensures ∙ c.in-Some.is))
 
-pub returns-in-At : goal.returns-in-At
-returns-in-At c = tree-found _ _ (sym c.first_fed_wrongly.ensures ∙ c.in-At.is)
+pub returns-in-Some : goal.returns-in-Some
+returns-in-Some c = tree-found _ _ (sym c.first_fed_wrongly.ensures ∙ c.in-Some.is)
 
-pub returns-in-Nothing : goal.returns-in-Nothing
-returns-in-Nothing c = tree-none _ (sym c.first_fed_wrongly.ensures ∙ c.in-Nothing.is)
+pub returns-in-None : goal.returns-in-None
+returns-in-None c = tree-none _ (sym c.first_fed_wrongly.ensures ∙ c.in-None.is)

@@ -18,26 +18,26 @@ sees :
 sees r x I e b t f g = sym (ap (sees_near r) e) ∙ sym f ∙ g
 
 pub in_primary-requires : goal.in_primary-requires
-in_primary-requires c = (c.requires.rated, found-bounded c.args.r c.requires _ _ (sym c.least_offered.ensures ∙ c.in-At.is))
+in_primary-requires c = (c.requires.rated, found-bounded c.args.r c.requires _ _ (sym c.least_offered.ensures ∙ c.in-Some.is))
 
 pub sees_near-requires : goal.sees_near-requires
 sees_near-requires c = (
   c.requires,
   subst PrimaryBounded (sym c.in_primary.ensures)
       (found-fits c.args.r c.requires _
-      (found-bounded c.args.r c.requires _ _ (sym c.least_offered.ensures ∙ c.in-At.is))),
+      (found-bounded c.args.r c.requires _ _ (sym c.least_offered.ensures ∙ c.in-Some.is))),
 )
 
 pub returns-then-sees_near : goal.returns-then-sees_near
 returns-then-sees_near c = let r = c.args.r in
-    cutoff-fitted r _ (sym (cutoff-least r _ c.cutoff_from.ensures) ∙ (sym c.least_offered.ensures ∙ c.in-At.is))
+    cutoff-fitted r _ (sym (cutoff-least r _ c.cutoff_from.ensures) ∙ (sym c.least_offered.ensures ∙ c.in-Some.is))
     (sees r _ _ c.in_primary.ensures _ _ c.sees_near.ensures c.if-sees_near.true)
 
 pub returns-else-sees_near : goal.returns-else-sees_near
 returns-else-sees_near c = let r = c.args.r in
-    cutoff-blind r _ (sym (cutoff-least r _ c.cutoff_from.ensures) ∙ (sym c.least_offered.ensures ∙ c.in-At.is))
+    cutoff-blind r _ (sym (cutoff-least r _ c.cutoff_from.ensures) ∙ (sym c.least_offered.ensures ∙ c.in-Some.is))
     (sees r _ _ c.in_primary.ensures _ _ c.sees_near.ensures c.if-sees_near.false)
 
-pub returns-in-Nothing : goal.returns-in-Nothing
-returns-in-Nothing c = let r = c.args.r in
-    cutoff-none r (sym (cutoff-least r _ c.cutoff_from.ensures) ∙ (sym c.least_offered.ensures ∙ c.in-Nothing.is))
+pub returns-in-None : goal.returns-in-None
+returns-in-None c = let r = c.args.r in
+    cutoff-none r (sym (cutoff-least r _ c.cutoff_from.ensures) ∙ (sym c.least_offered.ensures ∙ c.in-None.is))

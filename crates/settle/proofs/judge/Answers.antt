@@ -43,16 +43,16 @@ first_unbacked-requires c = let a = c.requires in
     (a.0, fits c.args.r c.args.x a.0.bounded a.2 _ c.in_primary-pickup.ensures)
 
 pub overflow_add-result : goal.overflow_add-result
-overflow_add-result c = omega (arith, unbacked-below _ _ _ _ (sym c.first_unbacked.ensures ∙ c.in-At.is))
+overflow_add-result c = omega (arith, unbacked-below _ _ _ _ (sym c.first_unbacked.ensures ∙ c.in-Some.is))
 
-pub returns-in-At : goal.returns-in-At
+pub returns-in-Some : goal.returns-in-Some
 unfolding by_backup
-returns-in-At c = judge-searched _ _ _ _ _ _ c.in_primary-pickup.ensures
+returns-in-Some c = judge-searched _ _ _ _ _ _ c.in_primary-pickup.ensures
     (sym c.sees_own_zone.ensures ∙ c.if-not-sees_own_zone.false)
-    (sym c.backs_up_all.ensures ∙ c.if-backs_up_all.false) _ (sym c.first_unbacked.ensures ∙ c.in-At.is)
+    (sym c.backs_up_all.ensures ∙ c.if-backs_up_all.false) _ (sym c.first_unbacked.ensures ∙ c.in-Some.is)
 
-pub returns-in-Nothing : goal.returns-in-Nothing
+pub returns-in-None : goal.returns-in-None
 unfolding by_backup
-returns-in-Nothing c = judge-searched _ _ _ _ _ _ c.in_primary-pickup.ensures
+returns-in-None c = judge-searched _ _ _ _ _ _ c.in_primary-pickup.ensures
     (sym c.sees_own_zone.ensures ∙ c.if-not-sees_own_zone.false)
-    (sym c.backs_up_all.ensures ∙ c.if-backs_up_all.false) _ (sym c.first_unbacked.ensures ∙ c.in-Nothing.is)
+    (sym c.backs_up_all.ensures ∙ c.if-backs_up_all.false) _ (sym c.first_unbacked.ensures ∙ c.in-None.is)

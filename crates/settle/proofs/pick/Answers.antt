@@ -6,11 +6,11 @@ use Rattle.settle.proofs.pick.Goals as goal
 
 pub judge-requires : goal.judge-requires
 judge-requires c = let a = c.requires in
-    (a.0, a.1, found-bounded _ a.0.bounded _ _ (sym c.least_offered.ensures ∙ c.in-At.is))
+    (a.0, a.1, found-bounded _ a.0.bounded _ _ (sym c.least_offered.ensures ∙ c.in-Some.is))
 
-pub returns-in-Nothing : goal.returns-in-Nothing
-returns-in-Nothing c = pick-none _ _ _ _ _ c.pickup_from.ensures (sym c.least_offered.ensures ∙ c.in-Nothing.is)
+pub returns-in-None : goal.returns-in-None
+returns-in-None c = pick-none _ _ _ _ _ c.pickup_from.ensures (sym c.least_offered.ensures ∙ c.in-None.is)
 
-pub returns-in-At : goal.returns-in-At
-returns-in-At c = c.judge.ensures ∙
-    pick-judged _ _ _ _ _ c.pickup_from.ensures _ (sym c.least_offered.ensures ∙ c.in-At.is)
+pub returns-in-Some : goal.returns-in-Some
+returns-in-Some c = c.judge.ensures ∙
+    pick-judged _ _ _ _ _ c.pickup_from.ensures _ (sym c.least_offered.ensures ∙ c.in-Some.is)

@@ -23,10 +23,10 @@ pub returns-in-Stuck : goal.returns-in-Stuck
 returns-in-Stuck c = row-stuck _ _ _ _ _ _ c.needed_multiple-m.ensures (sym c.stalls.ensures ∙ c.if-stalls.false) _
     (subst (WalkIs _ _ _ _ _) c.in-Stuck.is c.walk.ensures)
 
-pub returns-in-Nothing : goal.returns-in-Nothing
-returns-in-Nothing c = row-none _ _ _ _ _ _ c.needed_multiple-m.ensures (sym c.stalls.ensures ∙ c.if-stalls.false) _
-    (subst (WalkIs _ _ _ _ _) c.in-From.is c.walk.ensures) (sym c.least_time.ensures ∙ c.in-Nothing.is)
+pub returns-in-None : goal.returns-in-None
+returns-in-None c = row-none _ _ _ _ _ _ c.needed_multiple-m.ensures (sym c.stalls.ensures ∙ c.if-stalls.false) _
+    (subst (WalkIs _ _ _ _ _) c.in-From.is c.walk.ensures) (sym c.least_time.ensures ∙ c.in-None.is)
 
-pub returns-in-At : goal.returns-in-At
-returns-in-At c = row-set _ _ _ _ _ _ c.needed_multiple-m.ensures (sym c.stalls.ensures ∙ c.if-stalls.false) _
-    (subst (WalkIs _ _ _ _ _) c.in-From.is c.walk.ensures) _ (sym c.least_time.ensures ∙ c.in-At.is)
+pub returns-in-Some : goal.returns-in-Some
+returns-in-Some c = row-set _ _ _ _ _ _ c.needed_multiple-m.ensures (sym c.stalls.ensures ∙ c.if-stalls.false) _
+    (subst (WalkIs _ _ _ _ _) c.in-From.is c.walk.ensures) _ (sym c.least_time.ensures ∙ c.in-Some.is)
