@@ -1,8 +1,9 @@
-// The answers of section 4, with those of the requests that have landed, and their numbers.
+// The answers of section 4, with those of the requests that have landed, and their numbers: DONE is Ok, and every other answer is a refusal.
 #![tactic(auto)]
 
 ghost use Rattle.std.specs.Prelude.{◌≡◌};
-ghost use Rattle.answers.specs.declared.Answer.TheVariants.{Unsettled};
+ghost use Rattle.answers.specs.declared.Reason.TheVariants.{Pickup};
+ghost use Rattle.answers.specs.declared.Refusal.TheVariants.{Unsettled};
 ghost use Rattle.answers.specs.Answer.{given_by};
 
 // Why no available pickup meets P1 to P4 [02 §2]: none meets P1 and P2; the least that does fails P3; or it fails P4 for the fed
@@ -23,10 +24,17 @@ pub enum Reason {
     Delay,
 }
 
-// The answers, each with its place: lines, rows, fields and inputs from 1.
+impl From<Cause> for Reason {
+    ghost from_gives = { λ why r. r ≡ Pickup why };
+
+    fn from(why: Cause) -> Reason {
+        Reason::Pickup(why)
+    }
+}
+
+// The refusals, each with its place: lines, rows, fields and inputs from 1.
 #[derive(Clone, Copy)]
-pub enum Answer {
-    Done,
+pub enum Refusal {
     Text(u64),
     Count,
     Room,
@@ -40,45 +48,36 @@ pub enum Answer {
     Slope,
 }
 
-// What a test finds.
-#[derive(Clone, Copy)]
-pub enum Tested {
-    Passed,
-    Refused(Answer),
-}
-
 // An answer is given in so many numbers: number, place, and what names the place more closely.
 pub const NUMBERS: usize = 3;
 
 fn unsettled(row: u64, why: Reason) -> [u64; NUMBERS]
-    ensures { result ≡ given_by (Unsettled row why) }
+    ensures { result ≡ given_by (Err (Unsettled row why)) }
 {
     match why {
-        Reason::Pickup(cause) => match cause {
-            Cause::Range => [11, row, 0],
-            Cause::OwnZone => [12, row, 0],
-            Cause::Backup(fed) => [13, row, fed],
-        },
+        Reason::Pickup(Cause::Range) => [11, row, 0],
+        Reason::Pickup(Cause::OwnZone) => [12, row, 0],
+        Reason::Pickup(Cause::Backup(fed)) => [13, row, fed],
         Reason::Curve(stalled) => [14, stalled, 0],
         Reason::Delay => [7, row, 0],
     }
 }
 
-pub fn numbers(a: Answer) -> [u64; NUMBERS]
+pub fn numbers(a: Result<(), Refusal>) -> [u64; NUMBERS]
     ensures { result ≡ given_by a }
 {
     match a {
-        Answer::Done => [0, 0, 0],
-        Answer::Text(line) => [1, line, 0],
-        Answer::Count => [2, 0, 0],
-        Answer::Room => [3, 0, 0],
-        Answer::Field(row, field) => [4, row, field],
-        Answer::Tree(row) => [5, row, 0],
-        Answer::Unsettled(row, why) => unsettled(row, why),
-        Answer::Study(place) => [8, place, 0],
-        Answer::Card(row) => [9, row, 0],
-        Answer::Edit => [10, 0, 0],
-        Answer::Input(place) => [16, place, 0],
-        Answer::Slope => [17, 0, 0],
+        Ok(()) => [0, 0, 0],
+        Err(Refusal::Text(line)) => [1, line, 0],
+        Err(Refusal::Count) => [2, 0, 0],
+        Err(Refusal::Room) => [3, 0, 0],
+        Err(Refusal::Field(row, field)) => [4, row, field],
+        Err(Refusal::Tree(row)) => [5, row, 0],
+        Err(Refusal::Unsettled(row, why)) => unsettled(row, why),
+        Err(Refusal::Study(place)) => [8, place, 0],
+        Err(Refusal::Card(row)) => [9, row, 0],
+        Err(Refusal::Edit) => [10, 0, 0],
+        Err(Refusal::Input(place)) => [16, place, 0],
+        Err(Refusal::Slope) => [17, 0, 0],
     }
 }

@@ -1,4 +1,7 @@
 -- The loop over all rows: the rows below i are done, and what is left of the calculation is that of the rows from i on.
+use Rattle.settle.specs.Outcomes.{Settled}
+use Rattle.answers.specs.Answer.{Answer, done}
+use Rattle.std.proofs.Common.{Ok, Err}
 use mathlib.Core.Path.{◌≡◌, refl, sym, ap, ◌∙◌, subst}
 use mathlib.Core.Bool.{Bool, true, ◌||◌}
 use mathlib.Core.Logic.{⊎_elim}
@@ -12,17 +15,12 @@ use lib.ListN.{length, take, drop}
 use lib.Seq.{paste, take-length, length-take-le}
 use borrow.Author.Tests.{lt-ltb, le-ltb, ltb-true, eqb-true, eqb-false}
 use Rattle.fold.proofs.BoolLaws.{passes-or-fails, same_test}
-use Rattle.answers.specs.declared.Answer.{Answer}
-use Rattle.answers.specs.declared.Tested.{Tested}
-use Rattle.answers.specs.declared.Tested.TheVariants.{Passed, Refused}
 use Rattle.layout.specs.declared.CardRow.{CardRow}
 use Rattle.layout.specs.Card.{card_row_at, put_card_row}
 use Rattle.layout.specs.List.{rows, row_at}
 use Rattle.layout.specs.View.{view_of}
 use Rattle.feeding.specs.Fed.{Linked}
 use Rattle.settle.specs.Conditions.{fed}
-use Rattle.settle.specs.declared.Settled.{Settled}
-use Rattle.settle.specs.declared.Settled.TheVariants.{Set, Unset}
 use Rattle.settle.specs.Settle.{shown, settled}
 use Rattle.settle.proofs.SameLaws.{fed-below}
 use Rattle.rowwise.specs.Ready.{WorkReady, RowsReady, Stepped}
@@ -90,22 +88,22 @@ module _ (l c₀ c s : List ℕ) (i : ℕ) (v : Passing l c₀ c s i) (h : i < r
       (ap (λ (s : Settled). on_settled i s (λ k. work_out l (up_from (suc i) (rows l - suc i)) (put_card_row c i k))) (sym settles))
 
   all-refused :
-      (t : Tested) (a : Answer) (c' s' : List ℕ) → t ≡ Refused a → Stepped (step l i c s) t c' s' → calculation l c₀ ≡ worked_as
-      (Refused a) c'
+      (t : Answer) (a : Answer) (c' s' : List ℕ) → t ≡ Err a → Stepped (step l i c s) t c' s' → calculation l c₀ ≡ worked_as
+      (Err a) c'
   unfolding step worked_as step_by on_settled
   all-refused t a c' s' e z = goes_on ∙ by_cases (settled_at l i c s) (sym e ∙ z.answer)
     where
-      by_cases : (o : Settled) → Refused a ≡ (step_by l i c s o).tested → on_settled i o rest ≡ refused a
-      by_cases (Set o) e = absurd (never-passed (sym e))
-      by_cases (Unset why) e = ap refused (same_answer (sym e))
+      by_cases : (o : Settled) → Err a ≡ (step_by l i c s o).tested → on_settled i o rest ≡ refused a
+      by_cases (Ok o) e = absurd (never-passed (sym e))
+      by_cases (Err why) e = ap refused (same_answer (sym e))
 
-  all-next : (t : Tested) (c' s' : List ℕ) → t ≡ Passed → Stepped (step l i c s) t c' s' → Passing l c₀ c' s' (i + 1)
+  all-next : (t : Answer) (c' s' : List ℕ) → t ≡ done → Stepped (step l i c s) t c' s' → Passing l c₀ c' s' (i + 1)
   unfolding step step_by on_settled
   all-next t c' s' p z = by_cases (settled_at l i c s) refl z
     where
       by_cases :
           (o : Settled) → settled_at l i c s ≡ o → Stepped (step_by l i c s o) t c' s' → Passing l c₀ c' s' (i + 1)
-      by_cases (Set o) e z =
+      by_cases (Ok o) e z =
           rw (z.card, z.sums)
           (record {
             within = omega arith;
@@ -114,9 +112,9 @@ module _ (l c₀ c s : List ℕ) (i : ℕ) (v : Passing l c₀ c s i) (h : i < r
                 (settled-to l (below i) every_row c s v.working i h o (sym e));
             left = sym (goes_on ∙ ap (λ (s : Settled). on_settled i s rest) e);
           })
-      by_cases (Unset why) e z = absurd (never-passed (sym p ∙ z.answer))
+      by_cases (Err why) e z = absurd (never-passed (sym p ∙ z.answer))
 
-all_end : (l c₀ c s : List ℕ) (i : ℕ) → Passing l c₀ c s i → rows l ≤ i → calculation l c₀ ≡ worked_as Passed c
+all_end : (l c₀ c s : List ℕ) (i : ℕ) → Passing l c₀ c s i → rows l ≤ i → calculation l c₀ ≡ worked_as done c
 unfolding work_out up_from worked_as
 all_end l c₀ c s i v h =
     let e : rows l - i ≡ 0 = omega arith in
@@ -129,18 +127,18 @@ module _ (l c s : List ℕ) (a : Unworked l c s) where
   first_rows n = steps l 0 n c s
 
   -- one row more, after rows that passed and after a refusal
-  next-step : (n : ℕ) → (first_rows n).tested ≡ Passed → first_rows (suc n) ≡ step l n (first_rows n).card (first_rows n).sums
+  next-step : (n : ℕ) → (first_rows n).tested ≡ done → first_rows (suc n) ≡ step l n (first_rows n).card (first_rows n).sums
   next-step n e =
       let q : 0 + n ≡ n = omega arith in
       ap first_rows (sym (add-one n)) ∙ steps_next l 0 c s n e ∙ ap (λ (k : ℕ). step l k (first_rows n).card (first_rows n).sums) q
 
-  no_step : (n : ℕ) (b : Answer) → (first_rows n).tested ≡ Refused b → first_rows (suc n) ≡ first_rows n
+  no_step : (n : ℕ) (b : Answer) → (first_rows n).tested ≡ Err b → first_rows (suc n) ≡ first_rows n
   no_step n b e = ap first_rows (sym (add-one n)) ∙ steps-over l 0 c s n b e
 
   as-stepped : (z z' : Step) → z ≡ z' → Stepped z' z.tested z.card z.sums
   as-stepped z z' e = rw e (record { answer = refl; card = refl; sums = refl })
 
-  none_passed : Passed ≡ (first_rows 0).tested
+  none_passed : done ≡ (first_rows 0).tested
   unfolding steps
   none_passed = refl
 
@@ -148,29 +146,29 @@ module _ (l c s : List ℕ) (a : Unworked l c s) where
   unfolding steps
   none-passing = all_start l c s a
 
-  passing : (n : ℕ) → n ≤ rows l → (first_rows n).tested ≡ Passed → Passing l c (first_rows n).card (first_rows n).sums n
+  passing : (n : ℕ) → n ≤ rows l → (first_rows n).tested ≡ done → Passing l c (first_rows n).card (first_rows n).sums n
   passing zero h p = none-passing
   passing (suc n) h p = by_cases (passing n (omega arith)) (first_rows n).tested refl
     where
       by_cases :
-          ((first_rows n).tested ≡ Passed → Passing l c (first_rows n).card (first_rows n).sums n) → (t : Tested) → (first_rows n).tested ≡ t →
+          ((first_rows n).tested ≡ done → Passing l c (first_rows n).card (first_rows n).sums n) → (t : Answer) → (first_rows n).tested ≡ t →
           Passing l c (first_rows (suc n)).card (first_rows (suc n)).sums (suc n)
-      by_cases before Passed e =
+      by_cases before (Ok _) e =
           subst (Passing l c (first_rows (suc n)).card (first_rows (suc n)).sums) (add-one n)
           (all-next l c (first_rows n).card (first_rows n).sums n (before e) (omega arith) (first_rows (suc n)).tested
           (first_rows (suc n)).card (first_rows (suc n)).sums p (as-stepped (first_rows (suc n)) _ (next-step n e)))
-      by_cases before (Refused b) e = absurd (never-passed (sym p ∙ ap (λ (z : Step). z.tested) (no_step n b e) ∙ e))
+      by_cases before (Err b) e = absurd (never-passed (sym p ∙ ap (λ (z : Step). z.tested) (no_step n b e) ∙ e))
 
-  refused-there : (n : ℕ) → n ≤ rows l → (b : Answer) → (first_rows n).tested ≡ Refused b → calculation l c ≡ refused b
+  refused-there : (n : ℕ) → n ≤ rows l → (b : Answer) → (first_rows n).tested ≡ Err b → calculation l c ≡ refused b
   unfolding worked_as
   refused-there zero h b e = absurd (never-passed (none_passed ∙ e))
   refused-there (suc n) h b e = by_cases (refused-there n (omega arith) b) (first_rows n).tested refl
     where
-      by_cases : ((first_rows n).tested ≡ Refused b → calculation l c ≡ refused b) → (t : Tested) → (first_rows n).tested ≡ t → calculation l c ≡ refused b
-      by_cases before Passed q =
+      by_cases : ((first_rows n).tested ≡ Err b → calculation l c ≡ refused b) → (t : Answer) → (first_rows n).tested ≡ t → calculation l c ≡ refused b
+      by_cases before (Ok _) q =
           all-refused l c (first_rows n).card (first_rows n).sums n (passing n (omega arith) q) (omega arith) (first_rows (suc n)).tested b
           (first_rows (suc n)).card (first_rows (suc n)).sums e (as-stepped (first_rows (suc n)) _ (next-step n q))
-      by_cases before (Refused d) q = before (sym (ap (λ (z : Step). z.tested) (no_step n d q)) ∙ e)
+      by_cases before (Err d) q = before (sym (ap (λ (z : Step). z.tested) (no_step n d q)) ∙ e)
 
   pub all-rows-ready : (links : List ℕ) → Linked l links → RowsReady l links 0 (rows l - 0) c s
   all-rows-ready links linked =
@@ -182,16 +180,16 @@ module _ (l c s : List ℕ) (a : Unworked l c s) where
             (all-ready l c (first_rows k).card (first_rows k).sums k (passing k (omega arith) p) (omega arith) links linked);
       }
 
-  pub all-worked : (t : Tested) (c' s' : List ℕ) → Stepped (steps l 0 (rows l - 0) c s) t c' s' → calculation l c ≡ worked_as t c'
+  pub all-worked : (t : Answer) (c' s' : List ℕ) → Stepped (steps l 0 (rows l - 0) c s) t c' s' → calculation l c ≡ worked_as t c'
   unfolding worked_as
   all-worked t c' s' z = by_cases t (sym y.answer)
     where
       y : Stepped (first_rows (rows l)) t c' s'
       y = rw sub-zero at z
 
-      by_cases : (t : Tested) → (first_rows (rows l)).tested ≡ t → calculation l c ≡ worked_as t c'
-      by_cases Passed e = rw y.card (all_end l c _ _ (rows l) (passing (rows l) (omega arith) e) (omega arith))
-      by_cases (Refused b) e = refused-there (rows l) (omega arith) b e
+      by_cases : (t : Answer) → (first_rows (rows l)).tested ≡ t → calculation l c ≡ worked_as t c'
+      by_cases (Ok _) e = rw y.card (all_end l c _ _ (rows l) (passing (rows l) (omega arith) e) (omega arith))
+      by_cases (Err b) e = refused-there (rows l) (omega arith) b e
 
 -- the first n numbers of f copied over those of t
 pub front-pasted : (t f : List ℕ) (n : ℕ) → n ≤ length f → paste t 0 (take n f) (length (take n f)) ≡ take n f ++ drop n t

@@ -1,4 +1,6 @@
 -- The whole calculation's answer, one law for each way that it ends.
+use Rattle.answers.specs.Answer.{Answer, done}
+use Rattle.std.proofs.Common.{Err}
 use mathlib.Core.Path.{◌≡◌, refl, sym, ap, ◌∙◌, subst}
 use mathlib.Core.List.{List, ◌++◌}
 use Prim.Native.Nat.{ℕ, ◌*◌, ◌≤◌}
@@ -6,10 +8,6 @@ use native.Mathlib.Nat.{mul_comm}
 use native.Mathlib.Omega.{arith}
 use lib.ListN.{length, get_or, take, drop}
 use Rattle.layout.specs.Counts.{column_count, rows_most, card_most}
-use Rattle.answers.specs.declared.Answer.{Answer}
-use Rattle.answers.specs.declared.Answer.TheVariants.{Done}
-use Rattle.answers.specs.declared.Tested.{Tested}
-use Rattle.answers.specs.declared.Tested.TheVariants.{Passed, Refused}
 use Rattle.layout.specs.List.{rows}
 use Rattle.rows.specs.Tests.{size_test, rows_test}
 use Rattle.rows.proofs.InRangeLaws.{passed-feeds}
@@ -24,20 +22,20 @@ use Rattle.calculate.specs.Whole.{Result, ending, calculation, worked_as, whole}
 use Rattle.calculate.proofs.FrameLaws.{framed, calculation-frame}
 
 module _ (l c : List ℕ) where
-  pub answered-size : (t : Tested) (a : Answer) → t ≡ size_test (length l) (length c) → t ≡ Refused a → Answered (whole l c) a c
+  pub answered-size : (t : Answer) (a : Answer) → t ≡ size_test (length l) (length c) → t ≡ Err a → Answered (whole l c) a c
   unfolding whole ending on_passed
   answered-size t a e f = rw (sym e ∙ f) (record { answer = refl; card = refl })
 
-  module _ (s : Tested) (es : s ≡ size_test (length l) (length c)) (fs : s ≡ Passed) where
+  module _ (s : Answer) (es : s ≡ size_test (length l) (length c)) (fs : s ≡ done) where
     size : SizeRight (length l) (length c)
     size = size-passed (length l) (length c) (sym es ∙ fs)
 
-    pub answered-rows : (t : Tested) (a : Answer) → t ≡ rows_test l → t ≡ Refused a → Answered (whole l c) a c
+    pub answered-rows : (t : Answer) (a : Answer) → t ≡ rows_test l → t ≡ Err a → Answered (whole l c) a c
     unfolding whole ending on_passed
     answered-rows t a e f = rw (sym es ∙ fs, sym e ∙ f) (record { answer = refl; card = refl })
 
     -- both passed: what is left is the calculation
-    module _ (t : Tested) (et : t ≡ rows_test l) (ft : t ≡ Passed) where
+    module _ (t : Answer) (et : t ≡ rows_test l) (ft : t ≡ done) where
       pub work-tested : WorkTested l c
       work-tested =
           record { rows-to = omega (arith, size.most-rows); tested = sym et ∙ ft; card-room = omega (arith, size.card-room) }
@@ -74,15 +72,15 @@ module _ (l c : List ℕ) (r : WorkTested l c) where
       ap (framed (rows l * column_count) c) e)
 
   pub answered-refused :
-      (z z' : List ℕ) (w : Tested) (a : Answer) → card_most ≤ length z → calculation l z ≡ worked_as w z' → w ≡ Refused a →
+      (z z' : List ℕ) (w : Answer) (a : Answer) → card_most ≤ length z → calculation l z ≡ worked_as w z' → w ≡ Err a →
       Answered (ending c (calculation l c)) a c
   unfolding ending framed worked_as
   answered-refused z z' w a h e f =
       rw (calculates z (worked_as w z') h e, f) (record { answer = refl; card = refl })
 
   pub answered-done :
-      (z z' c' : List ℕ) (w : Tested) → card_most ≤ length z → calculation l z ≡ worked_as w z' → w ≡ Passed →
-      c' ≡ take (column_count * rows l) z' ++ drop (column_count * rows l) c → Answered (ending c (calculation l c)) Done c'
+      (z z' c' : List ℕ) (w : Answer) → card_most ≤ length z → calculation l z ≡ worked_as w z' → w ≡ done →
+      c' ≡ take (column_count * rows l) z' ++ drop (column_count * rows l) c → Answered (ending c (calculation l c)) done c'
   unfolding ending framed worked_as
   answered-done z z' c' w h e f g =
       rw (calculates z (worked_as w z') h e, f)

@@ -1,6 +1,7 @@
 -- The card that the whole calculation gives, in range as 9 CARD asks [01 §4], [02 §1, §3]: pickups from 1 and cutoffs to 100,000,000, of secondary
 -- rows to 500,000, delays to 100,000, laws to 2, multipliers to 1,500. And it has as many numbers as the lent one.
-use Rattle.std.proofs.Common.{Option, Some, None}
+use Rattle.answers.specs.Answer.{Answer, done}
+use Rattle.std.proofs.Common.{Option, Some, None, Ok, Err}
 use mathlib.Core.Path.{◌≡◌, refl, sym, ◌∙◌, subst}
 use mathlib.Core.Bool.{Bool, true, false, cond}
 use mathlib.Core.List.{List}
@@ -9,10 +10,6 @@ use native.Mathlib.Nat.{le_trans}
 use native.Mathlib.Omega.{arith}
 use lib.ListN.{length}
 use Rattle.fold.proofs.BoolLaws.{zero-not-one}
-use Rattle.answers.specs.declared.Answer.{Answer}
-use Rattle.answers.specs.declared.Answer.TheVariants.{Done}
-use Rattle.answers.specs.declared.Tested.{Tested}
-use Rattle.answers.specs.declared.Tested.TheVariants.{Passed, Refused}
 use Rattle.layout.specs.declared.Row.{Row}
 use Rattle.layout.specs.Card.{card_row_at}
 use Rattle.layout.specs.List.{rows, row_at}
@@ -68,10 +65,10 @@ least-in-range v k i b m =
     }
 
 module _ (l c : List ℕ) where
-  pub card-in-range : (whole l c).answer ≡ Done → (i : ℕ) → i < rows l → CardRowInRange (setting_most (row_at l i).ratio.primary) (card_row_at (whole l c).card i)
+  pub card-in-range : (whole l c).answer ≡ done → (i : ℕ) → i < rows l → CardRowInRange (setting_most (row_at l i).ratio.primary) (card_row_at (whole l c).card i)
   card-in-range e i h = of-gets ((every-list-gets l c (whole l c).answer).0 refl) e
     where
-      of-gets : {a : Answer} → Gets l c a → a ≡ Done → CardRowInRange (setting_most (row_at l i).ratio.primary) (card_row_at (whole l c).card i)
+      of-gets : {a : Answer} → Gets l c a → a ≡ done → CardRowInRange (setting_most (row_at l i).ratio.primary) (card_row_at (whole l c).card i)
       of-gets (Gets.COUNT n) q = absurd (zero-not-one cc)
       of-gets (Gets.ROOM s n) q = absurd (zero-not-one cc)
       of-gets (Gets.FIELD s r j k f) q = absurd (zero-not-one cc)
@@ -88,7 +85,7 @@ module _ (l c : List ℕ) where
       by-work (finished d) q = (calculation-keeps l c d q).same_length
       by-work (refused a) q = refl
 
-      by_tests : (t u : Tested) → length (ending c (on_passed t (on_passed u (calculation l c)))).card ≡ length c
-      by_tests Passed Passed = by-work (calculation l c) refl
-      by_tests Passed (Refused a) = refl
-      by_tests (Refused a) u = refl
+      by_tests : (t u : Answer) → length (ending c (on_passed t (on_passed u (calculation l c)))).card ≡ length c
+      by_tests (Ok _) (Ok _) = by-work (calculation l c) refl
+      by_tests (Ok _) (Err a) = refl
+      by_tests (Err a) u = refl

@@ -2,6 +2,7 @@
 -- pickups that meet P1 to P4 can be put in the place of the least, and the other way round.
 --     accepted-definite       a card is given exactly when some available pickups and delays meet every condition together
 --     least-definite          no other set that does has a pickup lower in primary or a shorter delay in any row
+use Rattle.answers.specs.Answer.{done}
 use mathlib.Core.Path.{◌≡◌, refl, sym, ◌∙◌, subst}
 use mathlib.Core.Logic.{◌↔◌}
 use mathlib.Core.List.{List}
@@ -9,7 +10,6 @@ use Prim.Native.Nat.{ℕ, ◌≤◌, ◌<◌}
 use native.Mathlib.Nat.{le_refl}
 use native.Mathlib.Omega.{arith}
 use lib.ListN.{length}
-use Rattle.answers.specs.declared.Answer.TheVariants.{Done}
 use Rattle.layout.specs.declared.CardRow.{CardRow}
 use Rattle.layout.specs.Card.{card_row_at}
 use Rattle.layout.specs.List.{rows}
@@ -66,7 +66,7 @@ module _ (l c : List ℕ) (size : RightSize l) (room : HasRoom l (length c)) (a 
       let p = least-pickups-exist (view_of l) (fed-below l b) (λ j h. (a j h).bounded) k m.pickups in
       (p.0, record { pickups = merged-pickups (view_of l) none p.0 k p.1; times = merged-times (view_of l) none p.0 k m.times })
 
-  pub accepted-definite : ((whole l c).answer ≡ Done) ↔ ((k : Settings) × MeetsTogether (view_of l) k)
+  pub accepted-definite : ((whole l c).answer ≡ done) ↔ ((k : Settings) × MeetsTogether (view_of l) k)
   accepted-definite = (
     λ e.
         let m = accepted-meets l c size room a b e in

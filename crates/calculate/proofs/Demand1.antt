@@ -2,6 +2,9 @@
 --     every-list-gets     each answer is given exactly where it is due (specs/Gets.antt), at the first place; none is given otherwise
 --     refused-card-kept   and then the lent card stands as it was lent (Demand2.antt)
 -- `whole` is the definition that the public entry's contract cites (specs/Whole.antt); it answers every list.
+use Rattle.answers.specs.declared.Refusal.TheVariants.{Unsettled}
+use Rattle.answers.specs.Answer.{Answer}
+use Rattle.std.proofs.Common.{Err}
 use mathlib.Core.Path.{◌≡◌, refl, sym, ◌∙◌, subst}
 use mathlib.Core.Logic.{◌↔◌, ⊎_elim}
 use mathlib.Core.List.{List}
@@ -10,11 +13,8 @@ use native.Mathlib.Nat.{zero-add, eq-or-lt_of_le}
 use native.Mathlib.Omega.{arith}
 use lib.ListN.{length}
 use Rattle.fold.proofs.FoldLaws.{below-cases}
-use Rattle.answers.specs.declared.Answer.{Answer}
-use Rattle.answers.specs.declared.Answer.TheVariants.{Unsettled}
 use Rattle.answers.specs.declared.Reason.{Reason}
 use Rattle.answers.specs.declared.Reason.TheVariants.{Pickup, Curve, Delay}
-use Rattle.answers.specs.declared.Tested.{Tested}
 use Rattle.layout.specs.Card.{card_row_at, put_card_row}
 use Rattle.layout.specs.Counts.{column_count}
 use Rattle.layout.specs.List.{rows}
@@ -24,7 +24,6 @@ use Rattle.layout.proofs.CardLaws.{put_card_row-length, put_card_row-own, put_ca
 use Rattle.rows.specs.InRange.{RightSize, HasRoom, InRange, Feeds, SizeGets, RowsGet}
 use Rattle.rows.proofs.ExactLaws.{get-size, size-gets, size-rows, get_rows, rows_get}
 use Rattle.settle.specs.declared.Outcome.{Outcome}
-use Rattle.settle.specs.declared.Settled.TheVariants.{Unset}
 use Rattle.settle.specs.Settle.{shown, settled}
 use Rattle.settle.specs.Inequalities.{RowSettled}
 use Rattle.settle.proofs.SameLaws.{settled_same, fed-below}
@@ -36,7 +35,7 @@ use Rattle.calculate.specs.Whole.{ending, calculation, whole}
 use Rattle.calculate.proofs.Demand2.{accepted-meets, settings-accepted, done-or-refused}
 
 -- rows below at their least settings k, and row i not settled above them: the calculation is refused there, on any card
-module _ (l : List ℕ) (b : Feeds l) (k : Settings) (i : ℕ) (h : i < rows l) (why : Reason) (unset : settled (view_of l) k i ≡ Unset why)
+module _ (l : List ℕ) (b : Feeds l) (k : Settings) (i : ℕ) (h : i < rows l) (why : Reason) (unset : settled (view_of l) k i ≡ Err why)
     (below : (j : ℕ) → j < i → RowSettled (view_of l) k j) where
   -- the card has the settings k below row j
   Agrees : ℕ → List ℕ → Type 0
@@ -112,7 +111,7 @@ module _ (l c : List ℕ) where
       given : {x : Answer} → Gets l c x → Gets l c (whole l c).answer
       given g = subst (Gets l c) (sym (get-whole g)) g
 
-      by_rows : {t : Tested} → RightSize l → HasRoom l (length c) → RowsGet l t → Gets l c (whole l c).answer
+      by_rows : {t : Answer} → RightSize l → HasRoom l (length c) → RowsGet l t → Gets l c (whole l c).answer
       by_rows s r (RowsGet.FIELD i k f) = given (Gets.FIELD s r i k f)
       by_rows s r (RowsGet.TREE i a f) = given (Gets.TREE s r a i f)
       by_rows s r (RowsGet.passed a b) =
@@ -121,7 +120,7 @@ module _ (l c : List ℕ) where
           (λ z. Gets.UNSETTLED s r a b z)
           (done-or-refused l c s r a b)
 
-      by_size : {t : Tested} → SizeGets l (length c) t → Gets l c (whole l c).answer
+      by_size : {t : Answer} → SizeGets l (length c) t → Gets l c (whole l c).answer
       by_size (SizeGets.COUNT n) = given (Gets.COUNT n)
       by_size (SizeGets.ROOM s n) = given (Gets.ROOM s n)
       by_size (SizeGets.passed s r) = by_rows s r (rows_get l (size-rows l s))

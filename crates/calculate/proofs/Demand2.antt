@@ -9,6 +9,9 @@
 --     past-the-card-kept, refused-card-kept      what stands in the lent card otherwise
 -- That the least pickups exist where any do is `least-pickups-exist` (LeastSetLaws.antt).
 -- `whole` is the definition that the public entry's contract cites (specs/Whole.antt).
+use Rattle.answers.specs.declared.Refusal.TheVariants.{Unsettled}
+use Rattle.answers.specs.Answer.{Answer, done}
+use Rattle.std.proofs.Common.{Ok, Err}
 use mathlib.Core.Path.{◌≡◌, refl, sym, ap, ◌∙◌}
 use mathlib.Core.Logic.{◌↔◌, ◌⊎◌, inl, inr, ⊎_elim}
 use mathlib.Core.List.{List}
@@ -16,13 +19,9 @@ use Prim.Native.Nat.{ℕ, ◌+◌, ◌*◌, ◌≤◌, ◌<◌}
 use native.Mathlib.Omega.{arith}
 use lib.ListN.{length, drop}
 use Rattle.fold.proofs.BoolLaws.{zero-not-one, not-both}
-use Rattle.answers.specs.declared.Answer.{Answer}
-use Rattle.answers.specs.declared.Answer.TheVariants.{Done, Unsettled}
 use Rattle.answers.specs.declared.Cause.{Cause}
 use Rattle.answers.proofs.AnswerLaws.{unsettled-not-done}
 use Rattle.answers.specs.declared.Reason.TheVariants.{Pickup, Curve, Delay}
-use Rattle.answers.specs.declared.Tested.{Tested}
-use Rattle.answers.specs.declared.Tested.TheVariants.{Passed, Refused}
 use Rattle.layout.specs.Card.{card_row_at}
 use Rattle.layout.specs.Counts.{column_count}
 use Rattle.layout.specs.List.{rows, row_at}
@@ -76,7 +75,7 @@ module _ (l c : List ℕ) (size : RightSize l) (room : HasRoom l (length c)) (a 
 
   -- a card is given exactly where the calculation finishes, and it is that card; any other list is refused by row
   data Ended : Type 0 where
-    accepted : (whole l c).answer ≡ Done → calculation l c ≡ finished (whole l c).card → Ended
+    accepted : (whole l c).answer ≡ done → calculation l c ≡ finished (whole l c).card → Ended
     refused-by : (x : Answer) → (whole l c).answer ≡ x → RefusedAt v x → Ended
 
   ended : Ended
@@ -90,7 +89,7 @@ module _ (l c : List ℕ) (size : RightSize l) (room : HasRoom l (length c)) (a 
       by_cases (refused x) f =
           refused-by x (ap (λ (r : Result). r.answer) (calculates ∙ ap (ending c) f)) (calculation-refused l bounded b c x room f)
 
-  every-row-settled : (whole l c).answer ≡ Done → (j : ℕ) → j < rows l → RowSettled v card j
+  every-row-settled : (whole l c).answer ≡ done → (j : ℕ) → j < rows l → RowSettled v card j
   unfolding v card
   every-row-settled e = by_cases ended
     where
@@ -99,11 +98,11 @@ module _ (l c : List ℕ) (size : RightSize l) (room : HasRoom l (length c)) (a 
       by_cases (refused-by x d z) = absurd (refused-not-done z (sym d ∙ e))
 
   -- each row of the card stands at its own least settings
-  pub accepted-least : (whole l c).answer ≡ Done → (j : ℕ) → j < rows l → LeastRow (view_of l) (card_row_at (whole l c).card) j
+  pub accepted-least : (whole l c).answer ≡ done → (j : ℕ) → j < rows l → LeastRow (view_of l) (card_row_at (whole l c).card) j
   unfolding v card
   accepted-least e j h = settled-least v card j (bounded j h) (every-row-settled e j h)
 
-  pub accepted-meets : (whole l c).answer ≡ Done → Meets (view_of l) (card_row_at (whole l c).card)
+  pub accepted-meets : (whole l c).answer ≡ done → Meets (view_of l) (card_row_at (whole l c).card)
   unfolding v card
   accepted-meets e =
       record {
@@ -128,7 +127,7 @@ module _ (l c : List ℕ) (size : RightSize l) (room : HasRoom l (length c)) (a 
         by_cases (refused-by x d (CURVE s i y place u p n)) = pickup-not-curve (sym e ∙ d)
         by_cases (refused-by x d (DELAY s i y u p r n)) = pickup-not-delay (sym e ∙ d)
 
-    pub no-lower-pickup : (whole l c).answer ≡ Done → (i : ℕ) → i < rows l → (pickup_at (view_of l) (card_row_at (whole l c).card) i).0 ≤ (pickup_at (view_of l) k i).0
+    pub no-lower-pickup : (whole l c).answer ≡ done → (i : ℕ) → i < rows l → (pickup_at (view_of l) (card_row_at (whole l c).card) i).0 ≤ (pickup_at (view_of l) k i).0
     no-lower-pickup e = (accepted-meets e).pickups.least k m
 
   -- settings whose pickups are the least and which meet every condition
@@ -163,11 +162,11 @@ module _ (l c : List ℕ) (size : RightSize l) (room : HasRoom l (length c)) (a 
         (least-pickup-same v (fed-below l b) s k i (same-pickups s i (omega (arith, u.is_row)) (λ j g. (u.rows-below j g).pickup)) x (k i).pickup p
         (least i u.is_row))
 
-    pub settings-accepted : (whole l c).answer ≡ Done
+    pub settings-accepted : (whole l c).answer ≡ done
     unfolding v
     settings-accepted = by_cases ended
       where
-        by_cases : Ended → (whole l c).answer ≡ Done
+        by_cases : Ended → (whole l c).answer ≡ done
         by_cases (accepted d f) = d
         by_cases (refused-by x d (NO-PICKUP s i why u n)) = absurd (fits-too k m.pickups.meet s i why u n)
         by_cases (refused-by x d (CURVE s i y place u p n)) = absurd (curve-not-runs v s i _ n (setting-fits s i y u p).runs)
@@ -183,29 +182,29 @@ module _ (l c : List ℕ) (size : RightSize l) (room : HasRoom l (length c)) (a 
       (under card (rows l) (omega arith) (accepted-least settings-accepted) i h).setting-to,
     )
 
-  pub accepted-exactly : ((whole l c).answer ≡ Done) ↔ ((k : Settings) × Meets (view_of l) k)
+  pub accepted-exactly : ((whole l c).answer ≡ done) ↔ ((k : Settings) × Meets (view_of l) k)
   accepted-exactly = (λ e. (card_row_at (whole l c).card, accepted-meets e), λ s. settings-accepted s.0 s.1)
 
-  pub law-column : (whole l c).answer ≡ Done → (i : ℕ) → i < rows l → (card_row_at (whole l c).card i).law ≡ (row_at l i).law
+  pub law-column : (whole l c).answer ≡ done → (i : ℕ) → i < rows l → (card_row_at (whole l c).card i).law ≡ (row_at l i).law
   unfolding v card
   law-column e i h = (accepted-least e i h).law
 
-  pub cutoff-column : (whole l c).answer ≡ Done → (i : ℕ) → i < rows l → (card_row_at (whole l c).card i).cutoff ≡ printed (cutoff_of (row_at l i))
+  pub cutoff-column : (whole l c).answer ≡ done → (i : ℕ) → i < rows l → (card_row_at (whole l c).card i).cutoff ≡ printed (cutoff_of (row_at l i))
   unfolding v card
   cutoff-column e i h = (accepted-least e i h).cutoff
 
-  pub done-or-refused : ((whole l c).answer ≡ Done) ⊎ RefusedAt (view_of l) (whole l c).answer
+  pub done-or-refused : ((whole l c).answer ≡ done) ⊎ RefusedAt (view_of l) (whole l c).answer
   unfolding v
   done-or-refused = by_cases ended
     where
-      by_cases : Ended → ((whole l c).answer ≡ Done) ⊎ RefusedAt (view_of l) (whole l c).answer
+      by_cases : Ended → ((whole l c).answer ≡ done) ⊎ RefusedAt (view_of l) (whole l c).answer
       by_cases (accepted d f) = inl d
       by_cases (refused-by x d z) = inr (rw d z)
 
-  pub refused-names : ((whole l c).answer ≡ Done → ⊥) → RefusedAt (view_of l) (whole l c).answer
+  pub refused-names : ((whole l c).answer ≡ done → ⊥) → RefusedAt (view_of l) (whole l c).answer
   refused-names n = ⊎_elim (λ d. absurd (n d)) (λ z. z) done-or-refused
 
-  pub past-the-card-kept : (whole l c).answer ≡ Done → drop (rows l * column_count) (whole l c).card ≡ drop (rows l * column_count) c
+  pub past-the-card-kept : (whole l c).answer ≡ done → drop (rows l * column_count) (whole l c).card ≡ drop (rows l * column_count) c
   past-the-card-kept e = by_cases ended
     where
       by_cases : Ended → drop (rows l * column_count) (whole l c).card ≡ drop (rows l * column_count) c
@@ -214,14 +213,14 @@ module _ (l c : List ℕ) (size : RightSize l) (room : HasRoom l (length c)) (a 
 
 -- whatever is refused, the lent card is as it was lent
 kept_by :
-    (c : List ℕ) (t u : Tested) (w : Worked) → ((ending c (on_passed t (on_passed u w))).answer ≡ Done → ⊥) →
+    (c : List ℕ) (t u : Answer) (w : Worked) → ((ending c (on_passed t (on_passed u w))).answer ≡ done → ⊥) →
     (ending c (on_passed t (on_passed u w))).card ≡ c
 unfolding ending on_passed
-kept_by c (Refused x) u w n = refl
-kept_by c Passed (Refused x) w n = refl
-kept_by c Passed Passed (finished c') n = absurd (n refl)
-kept_by c Passed Passed (refused x) n = refl
+kept_by c (Err x) u w n = refl
+kept_by c (Ok _) (Err x) w n = refl
+kept_by c (Ok _) (Ok _) (finished c') n = absurd (n refl)
+kept_by c (Ok _) (Ok _) (refused x) n = refl
 
-pub refused-card-kept : (l c : List ℕ) → ((whole l c).answer ≡ Done → ⊥) → (whole l c).card ≡ c
+pub refused-card-kept : (l c : List ℕ) → ((whole l c).answer ≡ done → ⊥) → (whole l c).card ≡ c
 unfolding whole
 refused-card-kept l c n = kept_by c (size_test (length l) (length c)) (rows_test l) (calculation l c) n

@@ -1,5 +1,7 @@
 -- A row's settings depend only on its own fields and on its fed rows, so the calculation does not depend on what stood on the
 -- card before it, and leaves what stands past its rows.
+use Rattle.settle.specs.Outcomes.{Settled}
+use Rattle.std.proofs.Common.{Ok, Err}
 use mathlib.Core.Path.{◌≡◌, refl, sym, ap, ◌∙◌}
 use mathlib.Core.List.{List, ◌++◌}
 use Prim.Native.Nat.{ℕ, zero, suc, ◌+◌, ◌*◌, ◌≤◌, ◌<◌}
@@ -14,8 +16,6 @@ use Rattle.layout.specs.List.{rows}
 use Rattle.layout.specs.View.{view_of}
 use Rattle.layout.proofs.CardLaws.{put_card_row-length, put_card_row-own, put_card_row-other, put_card_row-drop, cards-agree}
 use Rattle.rows.specs.InRange.{Feeds}
-use Rattle.settle.specs.declared.Settled.{Settled}
-use Rattle.settle.specs.declared.Settled.TheVariants.{Set, Unset}
 use Rattle.settle.specs.Settle.{shown, settled}
 use Rattle.settle.proofs.SameLaws.{settled_same, fed-below}
 use Rattle.rowwise.specs.WorkOut.{Worked, finished, refused, on_settled, work_out, up_from}
@@ -74,11 +74,11 @@ module _ (l : List ℕ) (b : Feeds l) where
       by_cases :
           (s : Settled) → ((k : CardRow) → rest c' k ≡ framed (rows l * column_count) (put_card_row c' i k) (rest c k)) →
           on_settled i s (rest c') ≡ framed (rows l * column_count) c' (on_settled i s (rest c))
-      by_cases (Set o) ih =
+      by_cases (Ok o) ih =
           ih (shown o) ∙
           framed-drop (rows l * column_count) (put_card_row c' i (shown o)) c' (rest c (shown o))
           (put_card_row-drop c' i (shown o) (rows l * column_count) (omega arith))
-      by_cases (Unset why) ih = refl
+      by_cases (Err why) ih = refl
 
   -- the calculation on one card gives that on any other
   pub calculation-frame :
@@ -105,13 +105,13 @@ module _ (l : List ℕ) where
           (s : Settled) → on_settled i s (λ k. work_out l (up_from (suc i) m) (put_card_row c i k)) ≡ finished c' →
           ((k : CardRow) → work_out l (up_from (suc i) m) (put_card_row c i k) ≡ finished c' → Kept (rows l * column_count) (put_card_row c i k) c') →
           Kept (rows l * column_count) c c'
-      by_cases (Set o) e ih =
+      by_cases (Ok o) e ih =
           let k = ih (shown o) e in
           record {
             same_length = k.same_length ∙ put_card_row-length c i (shown o);
             past-rows = k.past-rows ∙ put_card_row-drop c i (shown o) (rows l * column_count) (omega arith);
           }
-      by_cases (Unset why) e ih = absurd (never-finished e)
+      by_cases (Err why) e ih = absurd (never-finished e)
 
   pub calculation-keeps : (c c' : List ℕ) → calculation l c ≡ finished c' → Kept (rows l * column_count) c c'
   unfolding calculation

@@ -1,5 +1,7 @@
 -- [02 §3] The first stage by itself: pickups that are least as a set are least row by row; and where some pickups meet P1 to P4, the least do
 -- exist, built row by row. So the second stage always has its pickups.
+use Rattle.settle.specs.Outcomes.{Picked}
+use Rattle.std.proofs.Common.{Ok, Err}
 use mathlib.Core.Path.{◌≡◌, refl, sym, ap, ◌∙◌, subst}
 use mathlib.Core.Bool.{Bool, true, false, cond}
 use mathlib.Core.Logic.{⊎_elim}
@@ -14,8 +16,6 @@ use Rattle.layout.specs.declared.CardRow.{CardRow}
 use Rattle.layout.specs.Range.{AllBounded}
 use Rattle.layout.specs.View.{View, Settings}
 use Rattle.rowwise.specs.Working.{every_row}
-use Rattle.settle.specs.declared.Picked.{Picked}
-use Rattle.settle.specs.declared.Picked.TheVariants.{Fits, Unfit}
 use Rattle.sides.specs.declared.Secondary.{Secondary}
 use Rattle.settle.specs.Conditions.{primary_of, pickup_at, fed}
 use Rattle.settle.specs.Inequalities.{AvailableOn, Feeding, PickupMet, LeastPickup}
@@ -146,8 +146,8 @@ module _ (v : View) (below : (i j : ℕ) → j < v.count → fed v i j ≡ true 
         by_cases s.0 s.1 (pickup_of v s.0 n) refl
       where
         by_cases : (k : Settings) → LeastBelow n k → (p : Picked) → pickup_of v k n ≡ p → (k : Settings) × LeastBelow (suc n) k
-        by_cases k all (Fits x) e = (changed k n x, next-least n k x all ((pickup-exactly v k n (a n h) x).0 e))
-        by_cases k all (Unfit why) e =
+        by_cases k all (Ok x) e = (changed k n x, next-least n k x all ((pickup-exactly v k n (a n h) x).0 e))
+        by_cases k all (Err why) e =
             absurd
             (pickup-fits-on v below every_row v.count k k₀ (λ j _ o. absurd (not-both refl o)) (λ i b _. m.available i b) (λ i b _. m.met i b)
             n h refl (λ j b _. all j b) (cause-no-pickup v k n ((cause-exactly v k n (a n h).step_from why).0 e)))

@@ -1,12 +1,14 @@
 -- A calculation that ends in a refusal: which row it names, and why.
+use Rattle.settle.specs.Outcomes.{Settled}
+use Rattle.answers.specs.declared.Refusal.TheVariants.{Unsettled}
+use Rattle.answers.specs.Answer.{Answer, done}
+use Rattle.std.proofs.Common.{Ok, Err}
 use mathlib.Core.Path.{◌≡◌, refl, sym, subst}
 use mathlib.Core.List.{List}
 use Prim.Native.Nat.{ℕ, zero, suc, ◌+◌, ◌*◌, ◌≤◌, ◌<◌}
 use native.Mathlib.Nat.{zero-add}
 use native.Mathlib.Omega.{arith}
 use lib.ListN.{length}
-use Rattle.answers.specs.declared.Answer.{Answer}
-use Rattle.answers.specs.declared.Answer.TheVariants.{Done, Unsettled}
 use Rattle.answers.specs.declared.Reason.{Reason}
 use Rattle.answers.specs.declared.Reason.TheVariants.{Pickup, Curve, Delay}
 use Rattle.answers.proofs.AnswerLaws.{unsettled-not-done}
@@ -18,8 +20,6 @@ use Rattle.layout.proofs.CardLaws.{put_card_row-length}
 use Rattle.layout.specs.Range.{AllBounded}
 use Rattle.rows.specs.InRange.{Feeds}
 use Rattle.settle.specs.declared.Outcome.{Outcome}
-use Rattle.settle.specs.declared.Settled.{Settled}
-use Rattle.settle.specs.declared.Settled.TheVariants.{Set, Unset}
 use Rattle.settle.specs.Settle.{shown, settled}
 use Rattle.settle.proofs.SettledTheorems.{settled-least, no-pickup-exactly, no-curve-exactly, no-delay-exactly}
 use Rattle.rowwise.specs.WorkOut.{refused, on_settled, work_out, up_from}
@@ -29,7 +29,7 @@ use Rattle.calculate.specs.Whole.{calculation}
 use Rattle.calculate.proofs.SettledLaws.{Settles, next-settled}
 
 -- it is no acceptance
-pub refused-not-done : {v : View} {a : Answer} → RefusedAt v a → a ≡ Done → ⊥
+pub refused-not-done : {v : View} {a : Answer} → RefusedAt v a → a ≡ done → ⊥
 refused-not-done (NO-PICKUP k i why u n) e = unsettled-not-done e
 refused-not-done (CURVE k i x place u p n) e = unsettled-not-done e
 refused-not-done (DELAY k i x u p r n) e = unsettled-not-done e
@@ -53,7 +53,7 @@ module _ (l : List ℕ) (a : AllBounded (view_of l)) (b : Feeds l) where
       up_to =
           record { is_row = h; rows-below = λ j g. settled-least (view_of l) (card_row_at c) j (a j (omega arith)) (all j g) }
 
-      named : (why : Reason) → settled (view_of l) (card_row_at c) i ≡ Unset why → RefusedAt (view_of l) (Unsettled (i + 1) why)
+      named : (why : Reason) → settled (view_of l) (card_row_at c) i ≡ Err why → RefusedAt (view_of l) (Unsettled (i + 1) why)
       named (Pickup why) s = NO-PICKUP (card_row_at c) i why up_to ((no-pickup-exactly (view_of l) (card_row_at c) i (a i h) why).0 s)
       named (Curve place) s =
           let d = (no-curve-exactly (view_of l) (card_row_at c) i (a i h) place).0 s in
@@ -64,10 +64,10 @@ module _ (l : List ℕ) (a : AllBounded (view_of l)) (b : Feeds l) where
 
       by_cases :
           (s : Settled) → settled (view_of l) (card_row_at c) i ≡ s → on_settled i s (λ k. work_out l (up_from (suc i) m) (put_card_row c i k)) ≡ refused x →
-          ((o : Outcome) → settled (view_of l) (card_row_at c) i ≡ Set o → work_out l (up_from (suc i) m) (put_card_row c i (shown o)) ≡ refused x →
+          ((o : Outcome) → settled (view_of l) (card_row_at c) i ≡ Ok o → work_out l (up_from (suc i) m) (put_card_row c i (shown o)) ≡ refused x →
           RefusedAt (view_of l) x) → RefusedAt (view_of l) x
-      by_cases (Set o) s e ih = ih o s e
-      by_cases (Unset why) s e ih = subst (RefusedAt (view_of l)) (same-refusal e) (named why s)
+      by_cases (Ok o) s e ih = ih o s e
+      by_cases (Err why) s e ih = subst (RefusedAt (view_of l)) (same-refusal e) (named why s)
 
   pub calculation-refused : (c : List ℕ) (x : Answer) → rows l * column_count ≤ length c → calculation l c ≡ refused x → RefusedAt (view_of l) x
   unfolding calculation

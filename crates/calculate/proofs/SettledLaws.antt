@@ -1,4 +1,6 @@
 -- A finished calculation leaves every row at its own least settings on that very card.
+use Rattle.settle.specs.Outcomes.{Settled}
+use Rattle.std.proofs.Common.{Ok, Err}
 use mathlib.Core.Path.{◌≡◌, refl, sym, ◌∙◌}
 use mathlib.Core.List.{List}
 use Prim.Native.Nat.{ℕ, zero, suc, ◌+◌, ◌*◌, ◌≤◌, ◌<◌}
@@ -14,8 +16,6 @@ use Rattle.layout.specs.View.{view_of}
 use Rattle.layout.proofs.CardLaws.{put_card_row-length, put_card_row-own, put_card_row-other}
 use Rattle.rows.specs.InRange.{Feeds}
 use Rattle.settle.specs.declared.Outcome.{Outcome}
-use Rattle.settle.specs.declared.Settled.{Settled}
-use Rattle.settle.specs.declared.Settled.TheVariants.{Set, Unset}
 use Rattle.settle.specs.Inequalities.{RowSettled}
 use Rattle.settle.specs.Settle.{shown, settled}
 use Rattle.rowwise.specs.WorkOut.{finished, on_settled, work_out, up_from}
@@ -43,7 +43,7 @@ module _ (l : List ℕ) (b : Feeds l) where
       }
 
   now-settled :
-      (i : ℕ) (c : List ℕ) (o : Outcome) → i < rows l → rows l * column_count ≤ length c → settled (view_of l) (card_row_at c) i ≡ Set o →
+      (i : ℕ) (c : List ℕ) (o : Outcome) → i < rows l → rows l * column_count ≤ length c → settled (view_of l) (card_row_at c) i ≡ Ok o →
       Settles l (put_card_row c i (shown o)) i
   now-settled i c o h k e =
       record {
@@ -53,7 +53,7 @@ module _ (l : List ℕ) (b : Feeds l) where
       }
 
   pub next-settled :
-      (i : ℕ) (c : List ℕ) (o : Outcome) → i < rows l → rows l * column_count ≤ length c → settled (view_of l) (card_row_at c) i ≡ Set o →
+      (i : ℕ) (c : List ℕ) (o : Outcome) → i < rows l → rows l * column_count ≤ length c → settled (view_of l) (card_row_at c) i ≡ Ok o →
       ((j : ℕ) → j < i → Settles l c j) → (j : ℕ) → j < suc i → Settles l (put_card_row c i (shown o)) j
   next-settled i c o h k e all j g =
       below-cases g
@@ -76,11 +76,11 @@ module _ (l : List ℕ) (b : Feeds l) where
       by_cases :
           (s : Settled) → settled (view_of l) (card_row_at c) i ≡ s → on_settled i s (λ k. work_out l (up_from (suc i) m) (put_card_row c i k)) ≡
           finished c' →
-          ((o : Outcome) → settled (view_of l) (card_row_at c) i ≡ Set o → work_out l (up_from (suc i) m) (put_card_row c i (shown o)) ≡ finished c' →
+          ((o : Outcome) → settled (view_of l) (card_row_at c) i ≡ Ok o → work_out l (up_from (suc i) m) (put_card_row c i (shown o)) ≡ finished c' →
           (j : ℕ) → j < rows l → Settles l c' j) →
           (j : ℕ) → j < rows l → Settles l c' j
-      by_cases (Set o) s e ih = ih o s e
-      by_cases (Unset why) s e ih = absurd (never-finished e)
+      by_cases (Ok o) s e ih = ih o s e
+      by_cases (Err why) s e ih = absurd (never-finished e)
 
   pub calculation-settled :
       (c c' : List ℕ) → rows l * column_count ≤ length c → calculation l c ≡ finished c' → (j : ℕ) → j < rows l → Settles l c' j

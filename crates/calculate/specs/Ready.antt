@@ -1,8 +1,6 @@
 -- What the functions of the whole calculation ask of their callers, and the shape of their promises. Definitions only.
 use Rattle.std.specs.Prelude.{◌≡◌, List, ℕ, ◌*◌, ◌≤◌, length}
-use Rattle.answers.specs.declared.Answer.{Answer}
-use Rattle.answers.specs.Answer.{given_by}
-use Rattle.answers.specs.declared.Tested.TheVariants.{Passed}
+use Rattle.answers.specs.Answer.{given_by, Answer, done}
 use Rattle.layout.specs.Counts.{column_count, rows_most}
 use Rattle.layout.specs.List.{rows}
 use Rattle.rows.specs.Tests.{rows_test}
@@ -11,7 +9,7 @@ use Rattle.calculate.specs.Whole.{Result}
 -- a list of at most 256 rows that passed the tests of its rows, with room for its card
 pub record WorkTested (l c : List ℕ) : Type 0 where
   pub rows-to : rows l ≤ rows_most
-  pub tested : rows_test l ≡ Passed
+  pub tested : rows_test l ≡ done
   pub card-room : rows l * column_count ≤ length c
 
 -- the answer and the card are the result's

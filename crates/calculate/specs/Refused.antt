@@ -1,8 +1,8 @@
 -- [01 §4], [02 §2, §3] What a refusal by row says: the first row for which, the rows below at their least settings, no pickup fits, and why;
 -- or, at its least pickup, an M that is needed is at most 1.000, and whose; or no delay or multiplier fits. Definitions only.
+use Rattle.answers.specs.declared.Refusal.TheVariants.{Unsettled}
+use Rattle.answers.specs.Answer.{Answer}
 use Rattle.std.specs.Prelude.{ℕ, ◌+◌, ◌<◌}
-use Rattle.answers.specs.declared.Answer.{Answer}
-use Rattle.answers.specs.declared.Answer.TheVariants.{Unsettled}
 use Rattle.answers.specs.declared.Cause.{Cause}
 use Rattle.answers.specs.declared.Reason.TheVariants.{Pickup, Curve, Delay}
 use Rattle.layout.specs.View.{View, Settings}

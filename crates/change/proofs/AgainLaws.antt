@@ -7,8 +7,7 @@ use Prim.Native.Nat.{ℕ, ◌-◌, ◌*◌}
 use lib.Dec.{eqb}
 use lib.ListN.{length, drop}
 use Rattle.fold.proofs.BoolLaws.{passes-or-fails}
-use Rattle.answers.specs.declared.Answer.TheVariants.{Done}
-use Rattle.answers.specs.Answer.{number_of}
+use Rattle.answers.specs.Answer.{number_of, done}
 use Rattle.layout.specs.Counts.{column_count}
 use Rattle.layout.specs.List.{rows}
 use Rattle.rows.specs.Tests.{rows_test}
@@ -25,7 +24,7 @@ use Rattle.change.proofs.SkipLaws.{calculation-same}
 
 -- an accepted list, on another card of the same length that is alike past the rows
 whole_again :
-    (l c₀ c : List ℕ) → (whole l c₀).answer ≡ Done → length c ≡ length c₀ → drop (rows l * column_count) c ≡ drop (rows l * column_count) c₀ →
+    (l c₀ c : List ℕ) → (whole l c₀).answer ≡ done → length c ≡ length c₀ → drop (rows l * column_count) c ≡ drop (rows l * column_count) c₀ →
     (whole l c₀).card ≡ (whole l c).card
 unfolding on_passed ending
 whole_again l c₀ c e n d =
@@ -50,7 +49,7 @@ ledger-rows l [] = refl
 ledger-rows l (q ∷ qs) = ledger-rows (entered l q.place q.row).list qs ∙ entered-rows l q.place q.row
 
 pub series-again :
-    (l c₀ c : List ℕ) → whole l c₀ ≡ record { answer = Done; card = c } → (series : List Request) → (whole (ledger l series).list c₀).answer ≡ Done →
+    (l c₀ c : List ℕ) → whole l c₀ ≡ record { answer = done; card = c } → (series : List Request) → (whole (ledger l series).list c₀).answer ≡ done →
     (whole (ledger l series).list c₀).card ≡ (whole (ledger l series).list c).card
 series-again l c₀ c g series e =
     let x = accepts l c₀ c g in

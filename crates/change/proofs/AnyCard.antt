@@ -13,12 +13,12 @@
 --                     fits, no row below it having stopped the climb
 --     refused_none    refused, no row counts as worked out
 -- `replaced` is the definition that the public entry's contract cites (specs/Replace.antt).
+use Rattle.answers.specs.Answer.{done}
 use mathlib.Core.Path.{◌≡◌, sym, ◌∙◌, subst}
 use mathlib.Core.Logic.{◌↔◌}
 use mathlib.Core.List.{List}
 use Prim.Native.Nat.{ℕ, ◌+◌, ◌-◌, ◌≤◌, ◌<◌}
 use native.Mathlib.Numerals.{add-one}
-use Rattle.answers.specs.declared.Answer.TheVariants.{Done}
 use Rattle.layout.specs.Card.{card_row_at}
 use Rattle.layout.specs.List.{rows}
 use Rattle.layout.specs.View.{view_of, Settings}
@@ -45,7 +45,7 @@ module _ (l c : List ℕ) (place : ℕ) (row : List ℕ) (p : Passes l c place r
   row-of-it = is_row l c place row p
 
   pub path-visits :
-      (replaced l c place row).answer ≡ Done →
+      (replaced l c place row).answer ≡ done →
       Visits (made l place row) (place - 1) c (card_row_at (replaced l c place row).card) (replaced l c place row).count
   path-visits e = by_cases (ended l c place row p)
     where
@@ -54,7 +54,7 @@ module _ (l c : List ℕ) (place : ℕ) (row : List ℕ) (p : Passes l c place r
       by_cases (Ended.refused-by x d z) = absurd (refused-not-done z (sym d ∙ e))
 
   pub visits-exactly :
-      (replaced l c place row).answer ≡ Done → (n : ℕ) →
+      (replaced l c place row).answer ≡ done → (n : ℕ) →
       ((replaced l c place row).count ≡ n) ↔ ((k : Settings) × Visits (made l place row) (place - 1) c k n)
   visits-exactly e n =
       let v = path-visits e in (
@@ -66,7 +66,7 @@ module _ (l c : List ℕ) (place : ℕ) (row : List ℕ) (p : Passes l c place r
       )
 
   pub path-only :
-      (replaced l c place row).answer ≡ Done → (k : Settings) (last : ℕ) → WorkedTo (made l place row) (place - 1) c k last →
+      (replaced l c place row).answer ≡ done → (k : Settings) (last : ℕ) → WorkedTo (made l place row) (place - 1) c k last →
       (j : ℕ) → j < rows (made l place row) → card_row_at (replaced l c place row).card j ≡ k j
   path-only e k last w =
       let v = path-visits e in
@@ -87,25 +87,25 @@ module _ (l c : List ℕ) (place : ℕ) (row : List ℕ) (p : Passes l c place r
   path-least-pickups last w k m =
       under-pickups l' p.feeds (place - 1) row-of-it c card k last w (subst (PickupsBelow l' (place - 1) c k) (add-one last) m)
 
-  path-ended : (k : Settings) (s : ℕ) → WorkedTo l' (place - 1) c k s → (replaced l c place row).answer ≡ Done
+  path-ended : (k : Settings) (s : ℕ) → WorkedTo l' (place - 1) c k s → (replaced l c place row).answer ≡ done
   path-ended k s w = by_cases (ended l c place row p)
     where
-      by_cases : Ended l c place row p → (replaced l c place row).answer ≡ Done
+      by_cases : Ended l c place row p → (replaced l c place row).answer ≡ done
       by_cases (Ended.done d v) = d
       by_cases (Ended.refused-by x d z) = absurd (ended-not-refused l' p.feeds (place - 1) row-of-it c (λ j h. (p.in-range j h).bounded) k s w z)
 
   pub path-exactly :
-      ((replaced l c place row).answer ≡ Done) ↔ ((k : Settings) × (s : ℕ) × WorkedTo (made l place row) (place - 1) c k s)
+      ((replaced l c place row).answer ≡ done) ↔ ((k : Settings) × (s : ℕ) × WorkedTo (made l place row) (place - 1) c k s)
   path-exactly = (λ e. let v = path-visits e in (card, v.last, v.worked), λ s. path-ended s.0 s.1 s.2)
 
-  pub path-accepted : (k : Settings) → MeetsBelow (made l place row) (place - 1) c k (rows (made l place row)) → (replaced l c place row).answer ≡ Done
+  pub path-accepted : (k : Settings) → MeetsBelow (made l place row) (place - 1) c k (rows (made l place row)) → (replaced l c place row).answer ≡ done
   path-accepted k m = by_cases (ended l c place row p)
     where
-      by_cases : Ended l c place row p → (replaced l c place row).answer ≡ Done
+      by_cases : Ended l c place row p → (replaced l c place row).answer ≡ done
       by_cases (Ended.done d v) = d
       by_cases (Ended.refused-by x d z) = absurd (never-refused l' p.feeds (place - 1) row-of-it c k m z)
 
-  pub path-refused : ((replaced l c place row).answer ≡ Done → ⊥) → PathRefused (made l place row) (place - 1) c (replaced l c place row).answer
+  pub path-refused : ((replaced l c place row).answer ≡ done → ⊥) → PathRefused (made l place row) (place - 1) c (replaced l c place row).answer
   path-refused n = by_cases (ended l c place row p)
     where
       by_cases : Ended l c place row p → PathRefused l' (place - 1) c (replaced l c place row).answer
@@ -113,5 +113,5 @@ module _ (l c : List ℕ) (place : ℕ) (row : List ℕ) (p : Passes l c place r
       by_cases (Ended.refused-by x d z) = rw d z
 
 -- of any replacement
-pub refused_none : (l c : List ℕ) (place : ℕ) (row : List ℕ) → ((replaced l c place row).answer ≡ Done → ⊥) → (replaced l c place row).count ≡ 0
+pub refused_none : (l c : List ℕ) (place : ℕ) (row : List ℕ) → ((replaced l c place row).answer ≡ done → ⊥) → (replaced l c place row).count ≡ 0
 refused_none l c place row n = refused-counts l c place row n

@@ -3,15 +3,14 @@
 --                         order 2, 3, 10, 4, 5, 9, then 11, 12 or 13, 14, 7 along the path as far as the climb goes, absent; and none otherwise
 --     refused-as-lent     any refusal leaves list and card as they were lent
 -- `replaced` is the definition that the public entry's contract cites (specs/Replace.antt).
+use Rattle.answers.specs.declared.Refusal.TheVariants.{Count, Room}
+use Rattle.answers.specs.Answer.{Answer, done}
+use Rattle.std.proofs.Common.{Err}
 use mathlib.Core.Path.{◌≡◌, refl, sym, ap, ◌∙◌, subst}
 use mathlib.Core.Logic.{◌↔◌, ⊎_elim}
 use mathlib.Core.List.{List}
 use Prim.Native.Nat.{ℕ, ◌-◌, ◌≤◌, ◌<◌}
 use lib.ListN.{length}
-use Rattle.answers.specs.declared.Answer.{Answer}
-use Rattle.answers.specs.declared.Answer.TheVariants.{Done, Count, Room}
-use Rattle.answers.specs.declared.Tested.{Tested}
-use Rattle.answers.specs.declared.Tested.TheVariants.{Refused}
 use Rattle.fold.proofs.BoolLaws.{passes-or-fails, fails, not-both}
 use Rattle.layout.specs.Card.{card_row_at}
 use Rattle.layout.specs.Counts.{rows_most}
@@ -55,15 +54,15 @@ module _ (l c : List ℕ) (place : ℕ) (row : List ℕ) where
         ap (λ (r : Replaced). r.answer)
         (replaced-edited l c place row (get-size l (length c) (SizeGets.passed f.right-size f.room)) f.edit)
 
-    by_rows : (a : Answer) → RowsGet l' (Refused a) → answer ≡ a
+    by_rows : (a : Answer) → RowsGet l' (Err a) → answer ≡ a
     unfolding reworked on_passed outcome
     by_rows a g = goes_on ∙ rw (get_rows l' few g)
 
-    by-card : (a : Answer) → InRange l' → Feeds l' → CardGets l' (place - 1) c (Refused a) → answer ≡ a
+    by-card : (a : Answer) → InRange l' → Feeds l' → CardGets l' (place - 1) c (Err a) → answer ≡ a
     unfolding reworked on_passed outcome
     by-card a r b g = goes_on ∙ rw (get_rows l' few (RowsGet.passed r b), get-card l' (place - 1) c g)
 
-  by_size : (a : Answer) → SizeGets l (length c) (Refused a) → answer ≡ a
+  by_size : (a : Answer) → SizeGets l (length c) (Err a) → answer ≡ a
   unfolding answer_of
   by_size a g = sym (answer-size l c place row _ a refl (get-size l (length c) g)).answer
 
@@ -100,17 +99,17 @@ module _ (l c : List ℕ) (place : ℕ) (row : List ℕ) where
       path p (Ended.done d v) = given (ReplacementGets.DONE (card_row_at (replaced l c place row).card) v.last p v.worked)
       path p (Ended.refused-by x d z) = given (ReplacementGets.UNSETTLED p z)
 
-      cards : Fits l c place row → InRange l' → Feeds l' → {t : Tested} → CardGets l' (place - 1) c t → ReplacementGets l c place row answer
+      cards : Fits l c place row → InRange l' → Feeds l' → {t : Answer} → CardGets l' (place - 1) c t → ReplacementGets l c place row answer
       cards f r b (CardGets.passed k) =
           let p : Passes l c place row = record { fits = f; in-range = r; feeds = b; card = k } in path p (ended l c place row p)
       cards f r b (CardGets.CARD i w) = given (ReplacementGets.CARD i f r b w)
 
-      list : Fits l c place row → {t : Tested} → RowsGet l' t → ReplacementGets l c place row answer
+      list : Fits l c place row → {t : Answer} → RowsGet l' t → ReplacementGets l c place row answer
       list f (RowsGet.passed r b) = cards f r b (card-gets l' (place - 1) c)
       list f (RowsGet.FIELD i k w) = given (ReplacementGets.FIELD i k f w)
       list f (RowsGet.TREE i r w) = given (ReplacementGets.TREE i f r w)
 
-      sizes : {t : Tested} → SizeGets l (length c) t → ReplacementGets l c place row answer
+      sizes : {t : Answer} → SizeGets l (length c) t → ReplacementGets l c place row answer
       sizes (SizeGets.passed s r) =
           ⊎_elim
           (λ e. let f : Fits l c place row = record { right-size = s; room = r; edit = edit-fits l place row e } in list f (rows_get l' (few f)))
@@ -123,5 +122,5 @@ module _ (l c : List ℕ) (place : ℕ) (row : List ℕ) where
   replacement-gets a = (λ e. subst (ReplacementGets l c place row) e gets, get)
 
   pub refused-as-lent :
-      ((replaced l c place row).answer ≡ Done → ⊥) → ((replaced l c place row).list ≡ l) × ((replaced l c place row).card ≡ c)
+      ((replaced l c place row).answer ≡ done → ⊥) → ((replaced l c place row).list ≡ l) × ((replaced l c place row).card ≡ c)
   refused-as-lent n = refused-keeps l c place row n

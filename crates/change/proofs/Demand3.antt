@@ -9,14 +9,14 @@
 --     rows-to-visit            [02 §8] done on an accepted list and its card, the count is that of the rows up to the first feeding row,
 --                              after the replaced one, whose card row is the same by the whole calculations of both lists
 -- An accepted list l with its card c: `whole l c₀` is Done with card c, where c₀ is the card as it was lent.
+use Rattle.answers.specs.declared.Refusal.TheVariants.{Edit}
+use Rattle.answers.specs.Answer.{Answer, done}
 use mathlib.Core.Path.{◌≡◌, refl, sym, ap, ap₂, ◌∙◌, subst}
 use mathlib.Core.Logic.{◌↔◌, ⊎_elim}
 use mathlib.Core.List.{List, [], ◌∷◌}
 use Prim.Native.Nat.{ℕ, ◌-◌, ◌*◌}
 use lib.ListN.{length}
 use Rattle.fold.proofs.BoolLaws.{zero-not-one}
-use Rattle.answers.specs.declared.Answer.{Answer}
-use Rattle.answers.specs.declared.Answer.TheVariants.{Done, Edit}
 use Rattle.layout.specs.Card.{card_row_at}
 use Rattle.layout.specs.Counts.{column_count}
 use Rattle.layout.specs.List.{rows}
@@ -42,10 +42,10 @@ use Rattle.change.proofs.AnyCard.{path-visits}
 use Rattle.change.proofs.Demand1.{replacement-gets}
 use Rattle.change.proofs.DoneLaws.{done-passes}
 
-done-not-edit : Done ≡ Edit → ⊥
+done-not-edit : done ≡ Edit → ⊥
 done-not-edit e = zero-not-one cc
 
-pub demand-3 : (l c₀ c : List ℕ) → whole l c₀ ≡ record { answer = Done; card = c } → (series : List Request) → AfterSeries l c₀ c series
+pub demand-3 : (l c₀ c : List ℕ) → whole l c₀ ≡ record { answer = done; card = c } → (series : List Request) → AfterSeries l c₀ c series
 unfolding replacements ledger
 demand-3 l c₀ c g [] =
     let accepted = ap (λ (r : Result). r.answer) g in
@@ -56,7 +56,7 @@ demand-3 l c₀ c g (q ∷ qs) =
     let a = one-agrees l c₀ c g q.place q.row in
     let rest = demand-3 r.list c₀ r.card a.accepted qs in
     let same : ledger r.list qs ≡ ledger (entered l q.place q.row).list qs = ap (λ (l : List ℕ). ledger l qs) a.list in
-    let accepted = subst (λ (g : Ledger). (whole g.list c₀).answer ≡ Done) same rest.accepted in
+    let accepted = subst (λ (g : Ledger). (whole g.list c₀).answer ≡ done) same rest.accepted in
     let card = rest.card ∙ ap (λ (g : Ledger). (whole g.list c₀).card) same in
     record {
       answers = ap₂ ◌∷◌ a.answer (rest.answers ∙ ap (λ (g : Ledger). g.answers) same);
@@ -75,7 +75,7 @@ done-put-in l c (q ∷ qs) =
     ap (λ (l : List ℕ). put_done l (replacements r.list r.card qs).answers qs) (replaced-list l c q.place q.row)
 
 pub replaced-as-whole :
-    (l c₀ c : List ℕ) → whole l c₀ ≡ record { answer = Done; card = c } → (place : ℕ) (row : List ℕ) → EditFits l place row →
+    (l c₀ c : List ℕ) → whole l c₀ ≡ record { answer = done; card = c } → (place : ℕ) (row : List ℕ) → EditFits l place row →
     AsWhole l c₀ c place row
 unfolding outcome ending
 replaced-as-whole l c₀ c g place row f =
@@ -99,7 +99,7 @@ replaced-as-whole l c₀ c g place row f =
     by_cases (refused a) r w s n =
         let answer : (replaced l c place row).answer ≡ (whole (put_list l (place - 1) row) c₀).answer = ap (λ (r : Replaced). r.answer) r ∙ sym
         (ap (λ (r : Result). r.answer) w) in
-        let never : (replaced l c place row).answer ≡ Done → ⊥ = λ e. refuses-done (n a refl) (sym (ap (λ (r : Replaced). r.answer) r) ∙ e) in
+        let never : (replaced l c place row).answer ≡ done → ⊥ = λ e. refuses-done (n a refl) (sym (ap (λ (r : Replaced). r.answer) r) ∙ e) in
         record {
           answer = answer;
           answer-on-card = answer ∙ s;
@@ -122,7 +122,7 @@ edit-exactly l c place row s r = (
     by_cases (refused a) q e = later-edit (reworked-later (put_list l (place - 1) row) (place - 1) c a q) e
 
 pub off-path-kept :
-    (l c : List ℕ) (place : ℕ) (row : List ℕ) → (replaced l c place row).answer ≡ Done →
+    (l c : List ℕ) (place : ℕ) (row : List ℕ) → (replaced l c place row).answer ≡ done →
     LeftAlone l c place row (replaced l c place row).list (replaced l c place row).card
 off-path-kept l c place row e =
     let r = replaces l c place row e in
@@ -140,12 +140,12 @@ off-path-kept l c place row e =
     })
 
 pub refused-changes-nothing :
-    (l c : List ℕ) (place : ℕ) (row : List ℕ) → ((replaced l c place row).answer ≡ Done → ⊥) →
+    (l c : List ℕ) (place : ℕ) (row : List ℕ) → ((replaced l c place row).answer ≡ done → ⊥) →
     ((replaced l c place row).list ≡ l) × ((replaced l c place row).card ≡ c)
 refused-changes-nothing l c place row n = refused-keeps l c place row n
 
 pub rows-to-visit :
-    (l c₀ c : List ℕ) → whole l c₀ ≡ record { answer = Done; card = c } → (place : ℕ) (row : List ℕ) → (replaced l c place row).answer ≡ Done →
+    (l c₀ c : List ℕ) → whole l c₀ ≡ record { answer = done; card = c } → (place : ℕ) (row : List ℕ) → (replaced l c place row).answer ≡ done →
     Visits (put_list l (place - 1) row) (place - 1) c (card_row_at (whole (put_list l (place - 1) row) c₀).card) (replaced l c place row).count
 rows-to-visit l c₀ c g place row e =
     let p = done-passes l c place row e in

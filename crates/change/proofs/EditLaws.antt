@@ -1,4 +1,7 @@
 -- The test 10 EDIT passes exactly what section 4 lets pass.
+use Rattle.answers.specs.Answer.{done}
+use Rattle.answers.specs.declared.Refusal.TheVariants.{Edit}
+use Rattle.std.proofs.Common.{Err}
 use mathlib.Core.Path.{◌≡◌, refl}
 use mathlib.Core.Bool.{Bool, true, false, cond, ◌&&◌}
 use mathlib.Core.List.{List}
@@ -8,8 +11,6 @@ use lib.ListN.{length, get_or}
 use borrow.Author.Tests.{eqb-true, leb-true, le-leb, eq-eqb}
 use Rattle.layout.specs.Counts.{field_count}
 use Rattle.fold.proofs.BoolLaws.{and_left, and_right, and_both, fails, zero-not-one}
-use Rattle.answers.specs.declared.Answer.TheVariants.{Edit}
-use Rattle.answers.specs.declared.Tested.TheVariants.{Passed, Refused}
 use Rattle.layout.specs.Fields.{at_feeder}
 use Rattle.layout.specs.List.{rows, field}
 use Rattle.change.specs.Edit.{EditFits, edit_right, edit_test}
@@ -40,18 +41,18 @@ module _ (l : List ℕ) (place : ℕ) (row : List ℕ) where
       and_both (and_both (le-leb _ _ f.from) (le-leb place (rows l) f.to))
       (and_both (eq-eqb _ _ f.row-length) (and_both (eq-eqb _ _ f.own-number) (eq-eqb _ _ f.same-feeder)))
 
-  pub edit-passes : EditFits l place row → Passed ≡ edit_test l place row
+  pub edit-passes : EditFits l place row → done ≡ edit_test l place row
   unfolding edit_test
   edit-passes f = rw (fits-edit f)
 
-  pub edit-refuses : (EditFits l place row → ⊥) → Refused Edit ≡ edit_test l place row
+  pub edit-refuses : (EditFits l place row → ⊥) → Err Edit ≡ edit_test l place row
   unfolding edit_test
   edit-refuses n = rw (fails (edit_right l place row) (λ e. n (edit-fits e)))
 
-  pub edit-passed : edit_test l place row ≡ Passed → EditFits l place row
+  pub edit-passed : edit_test l place row ≡ done → EditFits l place row
   unfolding edit_test
   edit-passed e = edit-fits (by_cases (edit_right l place row) e)
     where
-      by_cases : (b : Bool) → cond b Passed (Refused Edit) ≡ Passed → b ≡ true
+      by_cases : (b : Bool) → cond b done (Err Edit) ≡ done → b ≡ true
       by_cases true q = refl
       by_cases false q = absurd (zero-not-one cc)

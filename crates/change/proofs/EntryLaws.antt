@@ -1,20 +1,16 @@
 -- The replacement, one law for each way that it ends.
+use Rattle.answers.specs.declared.Refusal.{Refusal}
+use Rattle.std.proofs.Common.{Result, Ok, Err}
 use mathlib.Core.Path.{◌≡◌, refl, sym, ap, ◌∙◌, subst}
 use mathlib.Core.List.{List, [], append-nil}
 use Prim.Native.Nat.{ℕ, ◌+◌, ◌-◌, ◌*◌}
 use native.Mathlib.Omega.{arith}
 use lib.ListN.{length, take, drop, drop_of_length-le}
 use Rattle.layout.specs.Counts.{field_count}
-use Rattle.answers.specs.declared.Answer.{Answer}
-use Rattle.answers.specs.declared.Answer.TheVariants.{Done}
-use Rattle.answers.specs.declared.Tested.{Tested}
-use Rattle.answers.specs.declared.Tested.TheVariants.{Passed, Refused}
-use Rattle.answers.specs.Answer.{given_by}
+use Rattle.answers.specs.Answer.{given_by, Answer, done}
 use Rattle.rows.specs.Tests.{size_test, rows_test}
 use Rattle.rows.proofs.TestLaws.{size-passed}
 use Rattle.rowwise.specs.WorkOut.{Worked, on_passed}
-use Rattle.path.specs.declared.HowFar.{HowFar}
-use Rattle.path.specs.declared.HowFar.TheVariants.{Rows}
 use Rattle.path.specs.Reach.{reach}
 use Rattle.change.specs.Edit.{PutReady, EditFits}
 use Rattle.change.specs.Ready.{ExchangeReady, exchanged, answer_of, count_of, Exchanged, Gave}
@@ -28,30 +24,30 @@ use Rattle.change.proofs.EditLaws.{edit-passed}
 
 -- 4 and 5, 9, then the path
 module _ (l : List ℕ) (i : ℕ) (c : List ℕ) where
-  pub rework-rows : (t : Tested) (a : Answer) → t ≡ rows_test l → t ≡ Refused a → Reworked (reach l i c) (reworked l i c) c (HowFar.Refused a) c
+  pub rework-rows : (t : Answer) (a : Answer) → t ≡ rows_test l → t ≡ Err a → Reworked (reach l i c) (reworked l i c) c (Result ℕ Refusal.Refused a) c
   unfolding reworked on_passed far_of card_of
   rework-rows t a e f = rw (sym e ∙ f) (record { far = refl; card = refl })
 
-  module _ (t : Tested) (e : t ≡ rows_test l) (f : t ≡ Passed) (t' : Tested) (e' : t' ≡ card_test l i c) where
-    pub rework-card : (a : Answer) → t' ≡ Refused a → Reworked (reach l i c) (reworked l i c) c (HowFar.Refused a) c
+  module _ (t : Answer) (e : t ≡ rows_test l) (f : t ≡ done) (t' : Answer) (e' : t' ≡ card_test l i c) where
+    pub rework-card : (a : Answer) → t' ≡ Err a → Reworked (reach l i c) (reworked l i c) c (Result ℕ Refusal.Refused a) c
     unfolding reworked on_passed far_of card_of
     rework-card a f' = rw (sym e ∙ f, sym e' ∙ f') (record { far = refl; card = refl })
 
-    pub rework-ready : t' ≡ Passed → ReworkReady l i c → PathReady l i c
+    pub rework-ready : t' ≡ done → ReworkReady l i c → PathReady l i c
     rework-ready f' r = record { rework = r; rows-tested = sym e ∙ f; card-tested = sym e' ∙ f' }
 
     pub rework-path :
-        t' ≡ Passed → (x : HowFar) (c' : List ℕ) → WorkedOut l (reach l i c) c x c' → Reworked (reach l i c) (reworked l i c) c x c'
+        t' ≡ done → (x : Result ℕ Refusal) (c' : List ℕ) → WorkedOut l (reach l i c) c x c' → Reworked (reach l i c) (reworked l i c) c x c'
     unfolding reworked on_passed
     rework-path f' x c' z = rw (sym e ∙ f, sym e' ∙ f') z
 
 -- the new row is put in
-module _ (l c : List ℕ) (i : ℕ) (row l' : List ℕ) (el : l' ≡ put_list l i row) (x : HowFar) (c' : List ℕ)
+module _ (l c : List ℕ) (i : ℕ) (row l' : List ℕ) (el : l' ≡ put_list l i row) (x : Result ℕ Refusal) (c' : List ℕ)
     (z : Reworked (reach l' i c) (reworked l' i c) c x c') where
   worked : reworked (put_list l i row) i c ≡ reworked l' i c
   worked = ap (λ (l : List ℕ). reworked l i c) (sym el)
 
-  pub exchange-done : (n : ℕ) → x ≡ Rows n → Exchanged (exchanged l c i row) x l' c'
+  pub exchange-done : (n : ℕ) → x ≡ Ok n → Exchanged (exchanged l c i row) x l' c'
   unfolding outcome answer_of count_of
   exchange-done n e =
       let b = reworked-done (reach l' i c) (reworked l' i c) c x c' z n e in
@@ -60,13 +56,13 @@ module _ (l c : List ℕ) (i : ℕ) (row l' : List ℕ) (el : l' ≡ put_list l 
 
   -- refused: the old row, which was kept aside in 22 numbers, goes back
   pub exchange-refused :
-      (a : Answer) (y old l'' : List ℕ) → x ≡ HowFar.Refused a → PutReady l i row → length y ≡ field_count →
+      (a : Answer) (y old l'' : List ℕ) → x ≡ Result ℕ Refusal.Refused a → PutReady l i row → length y ≡ field_count →
       old ≡ put_list y 0 (take (i * field_count + field_count - i * field_count) (drop (i * field_count) l)) → l'' ≡ put_list l' i old → Exchanged
-      (exchanged l c i row) (HowFar.Refused a) l'' c'
+      (exchanged l c i row) (Result ℕ Refusal.Refused a) l'' c'
   unfolding outcome put_list answer_of count_of
   exchange-refused a y old l'' e h ky eo e'' =
       let b = reworked-refused (reach l' i c) (reworked l' i c) c x c' z a e in
-      subst (λ (w : Worked). Exchanged (outcome l c (put_list l i row) i w) (HowFar.Refused a) l'' c') (sym (worked ∙ b.0))
+      subst (λ (w : Worked). Exchanged (outcome l c (put_list l i row) i w) (Result ℕ Refusal.Refused a) l'' c') (sym (worked ∙ b.0))
       (record {
         answer = refl;
         count = refl;
@@ -85,16 +81,16 @@ module _ (l c : List ℕ) (i : ℕ) (row l' : List ℕ) (el : l' ≡ put_list l 
 
 -- 2 and 3, then 10
 module _ (l c : List ℕ) (place : ℕ) (row : List ℕ) where
-  pub answer-size : (t : Tested) (a : Answer) → t ≡ size_test (length l) (length c) → t ≡ Refused a → Exchanged (replaced l c place row) (HowFar.Refused a) l c
+  pub answer-size : (t : Answer) (a : Answer) → t ≡ size_test (length l) (length c) → t ≡ Err a → Exchanged (replaced l c place row) (Result ℕ Refusal.Refused a) l c
   unfolding replaced on_passed outcome answer_of count_of
   answer-size t a e f = rw (sym e ∙ f) (record { answer = refl; count = refl; list = refl; card = refl })
 
-  module _ (t : Tested) (e : t ≡ size_test (length l) (length c)) (f : t ≡ Passed) (t' : Tested) (e' : t' ≡ edit_test l place row) where
-    pub answer-edit : (a : Answer) → t' ≡ Refused a → Exchanged (replaced l c place row) (HowFar.Refused a) l c
+  module _ (t : Answer) (e : t ≡ size_test (length l) (length c)) (f : t ≡ done) (t' : Answer) (e' : t' ≡ edit_test l place row) where
+    pub answer-edit : (a : Answer) → t' ≡ Err a → Exchanged (replaced l c place row) (Result ℕ Refusal.Refused a) l c
     unfolding replaced on_passed outcome answer_of count_of
     answer-edit a f' = rw (sym e ∙ f, sym e' ∙ f') (record { answer = refl; count = refl; list = refl; card = refl })
 
-    module _ (f' : t' ≡ Passed) where
+    module _ (f' : t' ≡ done) where
       answer-fits : EditFits l place row
       answer-fits = edit-passed l place row (sym e' ∙ f')
 
@@ -112,13 +108,13 @@ module _ (l c : List ℕ) (place : ℕ) (row : List ℕ) where
           }
 
       pub answer-exchanged :
-          (x : HowFar) (l' c' : List ℕ) → Exchanged (exchanged l c (place - 1) row) x l' c' → Exchanged (replaced l c place row) x l' c'
+          (x : Result ℕ Refusal) (l' c' : List ℕ) → Exchanged (exchanged l c (place - 1) row) x l' c' → Exchanged (replaced l c place row) x l' c'
       unfolding replaced on_passed
       answer-exchanged x l' c' z = rw (sym e ∙ f, sym e' ∙ f') z
 
 -- the answer in section 4's numbers, and the count
 pub gave :
-    {z : Replaced} {x : HowFar} (y : HowFar) {n : ℕ} {g l c : List ℕ} → x ≡ y → g ≡ given_by (answer_of y) → n ≡ count_of y → Exchanged z x l c →
+    {z : Replaced} {x : Result ℕ Refusal} (y : Result ℕ Refusal) {n : ℕ} {g l c : List ℕ} → x ≡ y → g ≡ given_by (answer_of y) → n ≡ count_of y → Exchanged z x l c →
     Gave z g n l c
 gave y q e f w =
     record {

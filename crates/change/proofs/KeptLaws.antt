@@ -1,4 +1,6 @@
 -- Working out rows writes those rows of the card only; what a replacement that is done has passed.
+use Rattle.settle.specs.Outcomes.{Settled}
+use Rattle.std.proofs.Common.{Ok, Err}
 use mathlib.Core.Path.{◌≡◌, refl, sym, ap, ◌∙◌}
 use mathlib.Core.Bool.{true, false, cond, or-true}
 use mathlib.Core.List.{List, [], ◌∷◌}
@@ -8,10 +10,7 @@ use lib.Dec.{eqb}
 use lib.ListN.{length, drop}
 use borrow.Author.Tests.{eq-eqb}
 use Rattle.fold.proofs.BoolLaws.{not-both, or_left, or_right}
-use Rattle.answers.specs.declared.Answer.{Answer}
-use Rattle.answers.specs.declared.Answer.TheVariants.{Done}
-use Rattle.answers.specs.declared.Tested.TheVariants.{Passed}
-use Rattle.answers.specs.Answer.{number_of}
+use Rattle.answers.specs.Answer.{number_of, Answer, done}
 use Rattle.layout.specs.declared.CardRow.{CardRow}
 use Rattle.layout.specs.Card.{card_row_at, put_card_row}
 use Rattle.layout.specs.Counts.{column_count}
@@ -20,8 +19,6 @@ use Rattle.layout.specs.View.{view_of}
 use Rattle.layout.proofs.CardLaws.{put_card_row-length, put_card_row-other, put_card_row-drop}
 use Rattle.rows.specs.Tests.{size_test, rows_test}
 use Rattle.rows.proofs.InRangeLaws.{passed-feeds}
-use Rattle.settle.specs.declared.Settled.{Settled}
-use Rattle.settle.specs.declared.Settled.TheVariants.{Set, Unset}
 use Rattle.settle.specs.Settle.{shown, settled}
 use Rattle.rowwise.specs.WorkOut.{Worked, finished, refused, on_settled, work_out, on_passed}
 use Rattle.rowwise.proofs.EndLaws.{never-finished}
@@ -52,7 +49,7 @@ module _ (l : List ℕ) where
       by_cases :
           (s : Settled) → on_settled i s (λ k. work_out l is (put_card_row c i k)) ≡ finished c' →
           ((k : CardRow) → work_out l is (put_card_row c i k) ≡ finished c' → Keeps is (put_card_row c i k) c') → Keeps (i ∷ is) c c'
-      by_cases (Set o) e ih =
+      by_cases (Ok o) e ih =
           let k = ih (shown o) e in
           record {
             same_length = k.same_length ∙ put_card_row-length c i (shown o);
@@ -65,7 +62,7 @@ module _ (l : List ℕ) where
                 k.past n (λ j on. room j (rw on (or-true (eqb j i)))) ∙
                 put_card_row-drop c i (shown o) n (room i (rw (eq-eqb i i refl)));
           }
-      by_cases (Unset why) e ih = absurd (never-finished e)
+      by_cases (Err why) e ih = absurd (never-finished e)
 
 module _ (l c : List ℕ) (place : ℕ) (row : List ℕ) where
   abbrev tried : Worked
@@ -79,23 +76,23 @@ module _ (l c : List ℕ) (place : ℕ) (row : List ℕ) where
   -- what a replacement that is done has passed, and what it leaves
   pub record Replaces : Type 0 where
     pub card : List ℕ
-    pub size : size_test (length l) (length c) ≡ Passed
+    pub size : size_test (length l) (length c) ≡ done
     pub fits : EditFits l place row
-    pub tested : rows_test (put_list l (place - 1) row) ≡ Passed
+    pub tested : rows_test (put_list l (place - 1) row) ≡ done
     pub worked : work_out (put_list l (place - 1) row) (reach (put_list l (place - 1) row) (place - 1) c) c ≡ finished card
     pub is :
         replaced l c place row ≡ record {
-          answer = Done;
+          answer = done;
           list = put_list l (place - 1) row;
           card = card;
           count = length (reach (put_list l (place - 1) row) (place - 1) c);
         }
 
-  pub replaces : (replaced l c place row).answer ≡ Done → Replaces
+  pub replaces : (replaced l c place row).answer ≡ done → Replaces
   unfolding replaced outcome reworked
   replaces e = by_cases tried refl e
     where
-      by_cases : (w : Worked) → tried ≡ w → (outcome l c (put_list l (place - 1) row) (place - 1) w).answer ≡ Done → Replaces
+      by_cases : (w : Worked) → tried ≡ w → (outcome l c (put_list l (place - 1) row) (place - 1) w).answer ≡ done → Replaces
       by_cases (finished d) q g =
           let s = passed-finished _ _ d q in
           let t = passed-finished _ _ d s.1 in
@@ -123,28 +120,28 @@ module _ (l c : List ℕ) (place : ℕ) (row : List ℕ) where
       by_cases (refused a) q = rw (tried-refuses a q).not_done
 
   -- refused, the list and the card are as they were
-  pub refused-keeps : ((replaced l c place row).answer ≡ Done → ⊥) → ((replaced l c place row).list ≡ l) × ((replaced l c place row).card ≡ c)
+  pub refused-keeps : ((replaced l c place row).answer ≡ done → ⊥) → ((replaced l c place row).list ≡ l) × ((replaced l c place row).card ≡ c)
   unfolding replaced outcome
   refused-keeps n = by_cases tried n
     where
       by_cases :
-          (w : Worked) → ((outcome l c (put_list l (place - 1) row) (place - 1) w).answer ≡ Done → ⊥) →
+          (w : Worked) → ((outcome l c (put_list l (place - 1) row) (place - 1) w).answer ≡ done → ⊥) →
           ((outcome l c (put_list l (place - 1) row) (place - 1) w).list ≡ l) × ((outcome l c (put_list l (place - 1) row) (place - 1) w).card ≡ c)
       by_cases (finished d) n = absurd (n refl)
       by_cases (refused a) n = (refl, refl)
 
-  pub refused-counts : ((replaced l c place row).answer ≡ Done → ⊥) → (replaced l c place row).count ≡ 0
+  pub refused-counts : ((replaced l c place row).answer ≡ done → ⊥) → (replaced l c place row).count ≡ 0
   unfolding replaced outcome
   refused-counts n = by_cases tried n
     where
       by_cases :
-          (w : Worked) → ((outcome l c (put_list l (place - 1) row) (place - 1) w).answer ≡ Done → ⊥) →
+          (w : Worked) → ((outcome l c (put_list l (place - 1) row) (place - 1) w).answer ≡ done → ⊥) →
           (outcome l c (put_list l (place - 1) row) (place - 1) w).count ≡ 0
       by_cases (finished d) n = absurd (n refl)
       by_cases (refused a) n = refl
 
   -- a row off the path is none of the rows worked out, which are rows of the list
-  module _ (f : EditFits l place row) (t : rows_test (put_list l (place - 1) row) ≡ Passed) where
+  module _ (f : EditFits l place row) (t : rows_test (put_list l (place - 1) row) ≡ done) where
     pub off-outside : (j : ℕ) → (OnPath l (place - 1) j → ⊥) → has (reach (put_list l (place - 1) row) (place - 1) c) j ≡ false
     unfolding on_path
     off-outside j off =

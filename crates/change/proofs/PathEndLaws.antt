@@ -1,11 +1,9 @@
 -- A replacement that passes 2, 3, 10, 4, 5 and 9 comes down to its path, worked out on the card as it is found; how that ends.
+use Rattle.answers.specs.Answer.{Answer, done}
 use mathlib.Core.Path.{◌≡◌, ap, ◌∙◌}
 use mathlib.Core.List.{List}
 use Prim.Native.Nat.{ℕ, ◌-◌, ◌*◌, ◌≤◌, ◌<◌}
 use lib.ListN.{length}
-use Rattle.answers.specs.declared.Answer.{Answer}
-use Rattle.answers.specs.declared.Answer.TheVariants.{Done}
-use Rattle.answers.specs.declared.Tested.TheVariants.{Passed}
 use Rattle.answers.proofs.AnswerLaws.{unsettled-not-done}
 use Rattle.layout.specs.Card.{card_row_at}
 use Rattle.layout.specs.Counts.{column_count}
@@ -28,7 +26,7 @@ use Rattle.change.proofs.EditedLaws.{edited-rows, edited-is-row}
 use Rattle.change.proofs.SeriesLaws.{replaced-edited}
 
 -- a refusal along the path is no Done
-pub refused-not-done : {l : List ℕ} {i : ℕ} {c : List ℕ} {x : Answer} → PathRefused l i c x → x ≡ Done → ⊥
+pub refused-not-done : {l : List ℕ} {i : ℕ} {c : List ℕ} {x : Answer} → PathRefused l i c x → x ≡ done → ⊥
 refused-not-done (NO-PICKUP k j why u n) e = unsettled-not-done e
 refused-not-done (CURVE k j x place u p n) e = unsettled-not-done e
 refused-not-done (DELAY k j x u p r n) e = unsettled-not-done e
@@ -49,10 +47,10 @@ module _ (l c : List ℕ) (place : ℕ) (row : List ℕ) (p : Passes l c place r
   room : rows l' * column_count ≤ length c
   room = rw (← same_rows) p.fits.room
 
-  size-passed : size_test (length l) (length c) ≡ Passed
+  size-passed : size_test (length l) (length c) ≡ done
   size-passed = get-size l (length c) (SizeGets.passed p.fits.right-size p.fits.room)
 
-  rows-passed : rows_test l' ≡ Passed
+  rows-passed : rows_test l' ≡ done
   rows-passed = get_rows l' (rw (← same_rows) (size-rows l p.fits.right-size)) (RowsGet.passed p.in-range p.feeds)
 
   works : replaced l c place row ≡ outcome l c l' (place - 1) (work_out l' (reach l' (place - 1) c) c)
@@ -64,7 +62,7 @@ module _ (l c : List ℕ) (place : ℕ) (row : List ℕ) (p : Passes l c place r
   -- how it ends
   pub data Ended : Type 0 where
     done :
-        (replaced l c place row).answer ≡ Done →
+        (replaced l c place row).answer ≡ done →
         Visits (made l place row) (place - 1) c (card_row_at (replaced l c place row).card) (replaced l c place row).count → Ended
     refused-by : (x : Answer) → (replaced l c place row).answer ≡ x → PathRefused (made l place row) (place - 1) c x → Ended
 

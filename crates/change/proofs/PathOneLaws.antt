@@ -1,5 +1,8 @@
 -- Along a path, with the numbers found off it: where some settings meet every condition no row is refused, the row at which the climb
 -- ends is one only, and so are the row and the reason of a refusal.
+use Rattle.answers.specs.declared.Refusal.TheVariants.{Unsettled}
+use Rattle.answers.specs.Answer.{Answer}
+use Rattle.std.proofs.Common.{Ok, Err}
 use mathlib.Core.Path.{◌≡◌, refl, sym, ap, ◌∙◌}
 use mathlib.Core.Bool.{true, false}
 use mathlib.Core.Logic.{⊎_elim}
@@ -9,8 +12,6 @@ use native.Mathlib.Nat.{eq-or-lt_of_le, le_antisymm}
 use native.Mathlib.Omega.{arith}
 use borrow.Author.Tests.{eq-eqb}
 use Rattle.fold.proofs.BoolLaws.{passes-or-fails, lt-or-le, zero-not-one}
-use Rattle.answers.specs.declared.Answer.{Answer}
-use Rattle.answers.specs.declared.Answer.TheVariants.{Unsettled}
 use Rattle.answers.specs.declared.Reason.{Reason}
 use Rattle.answers.specs.declared.Reason.TheVariants.{Pickup, Curve, Delay}
 use Rattle.layout.specs.Fields.{at_feeder}
@@ -19,7 +20,6 @@ use Rattle.layout.specs.Range.{AllBounded}
 use Rattle.layout.specs.View.{view_of, Settings}
 use Rattle.rows.specs.InRange.{Feeds}
 use Rattle.settle.specs.declared.Outcome.{Outcome}
-use Rattle.settle.specs.declared.Settled.TheVariants.{Set, Unset}
 use Rattle.settle.specs.Settle.{settled}
 use Rattle.settle.proofs.CauseTheorems.{cause-no-pickup}
 use Rattle.settle.proofs.SameLaws.{settled_same, fed-below}
@@ -35,10 +35,10 @@ in_order : {P : Type 0} (a b : ℕ) → (a < b → P) → (a ≡ b → P) → (b
 in_order a b f g h = ⊎_elim f (λ (q : b ≤ a). ⊎_elim (λ (e : b ≡ a). g (sym e)) h (eq-or-lt_of_le q)) (lt-or-le a b)
 
 -- no outcome is two things at once
-never-set : {why : Reason} {o : Outcome} → Unset why ≡ Set o → ⊥
+never-set : {why : Reason} {o : Outcome} → Err why ≡ Ok o → ⊥
 never-set e = zero-not-one cc
 
-same-reason : {why why' : Reason} → Unset why ≡ Unset why' → why ≡ why'
+same-reason : {why why' : Reason} → Err why ≡ Err why' → why ≡ why'
 same-reason e = cc
 
 module _ (l : List ℕ) (b : Feeds l) (i : ℕ) (h : i < rows l) (c : List ℕ) where
@@ -79,7 +79,7 @@ module _ (l : List ℕ) (b : Feeds l) (i : ℕ) (h : i < rows l) (c : List ℕ) 
     row : ℕ
     why : Reason
     next : PathUpTo l i c settings row
-    unset : settled (view_of l) settings row ≡ Unset why
+    unset : settled (view_of l) settings row ≡ Err why
     answer : x ≡ Unsettled (row + 1) why
 
   unsettles : AllBounded (view_of l) → {x : Answer} → PathRefused l i c x → Unsettles x
@@ -124,7 +124,7 @@ module _ (l : List ℕ) (b : Feeds l) (i : ℕ) (h : i < rows l) (c : List ℕ) 
 
   -- where a row is not settled in k, it is not at its least settings in k'
   not_least :
-      AllBounded (view_of l) → (k k' : Settings) (j : ℕ) {why : Reason} → PathUpTo l i c k j → settled (view_of l) k j ≡ Unset why →
+      AllBounded (view_of l) → (k k' : Settings) (j : ℕ) {why : Reason} → PathUpTo l i c k j → settled (view_of l) k j ≡ Err why →
       LeastBelow l i c k' (suc j) → ⊥
   not_least a k k' j u e u' =
       let s = least-settled (view_of l) k' j (a j (row_within u)) (u'.least j u.on-path (omega arith)) in
@@ -173,7 +173,7 @@ module _ (l : List ℕ) (b : Feeds l) (i : ℕ) (h : i < rows l) (c : List ℕ) 
       (λ g. absurd (not_least a r.settings r'.settings r.row r.next r.unset (fewer (suc r.row) r'.row g (up_to r'.next))))
       (λ e.
       let next' : PathUpTo l i c r'.settings r.row = rw e r'.next in
-      let unset' : settled (view_of l) r'.settings r.row ≡ Unset r'.why = rw e r'.unset in
+      let unset' : settled (view_of l) r'.settings r.row ≡ Err r'.why = rw e r'.unset in
       let same = same-reason
       (sym r.unset ∙ settles-alike r.settings r'.settings r.row (row_within r.next) (up_to r.next) (up_to next') ∙ unset') in
       λ t. Unsettled (e t + 1) (same t))

@@ -1,4 +1,7 @@
 -- One row of a climb on any card: what holds where it is next, and what it comes to there, refused, the last one or passed.
+use Rattle.answers.specs.declared.Refusal.TheVariants.{Unsettled}
+use Rattle.answers.specs.Answer.{Answer}
+use Rattle.std.proofs.Common.{Ok, Err}
 use mathlib.Core.Path.{◌≡◌, sym, ◌∙◌}
 use mathlib.Core.Bool.{true, false}
 use mathlib.Core.Logic.{◌⊎◌, ⊎_elim}
@@ -9,8 +12,6 @@ use lib.ListN.{length}
 use borrow.Author.Tests.{ne_eqb}
 use Rattle.fold.proofs.BoolLaws.{not-both, fails, lt-or-le}
 use Rattle.fold.proofs.FoldLaws.{below-cases}
-use Rattle.answers.specs.declared.Answer.{Answer}
-use Rattle.answers.specs.declared.Answer.TheVariants.{Unsettled}
 use Rattle.answers.specs.declared.Reason.{Reason}
 use Rattle.answers.specs.declared.Reason.TheVariants.{Pickup, Curve, Delay}
 use Rattle.layout.specs.Card.{card_row_at, put_card_row}
@@ -22,7 +23,6 @@ use Rattle.layout.proofs.CardLaws.{put_card_row-length, put_card_row-own, put_ca
 use Rattle.layout.specs.Range.{AllBounded}
 use Rattle.rows.specs.InRange.{Feeds}
 use Rattle.settle.specs.declared.Outcome.{Outcome}
-use Rattle.settle.specs.declared.Settled.TheVariants.{Set, Unset}
 use Rattle.settle.specs.Conditions.{fed}
 use Rattle.settle.specs.Inequalities.{LeastRow}
 use Rattle.settle.specs.Settle.{shown, settled}
@@ -75,10 +75,10 @@ module _ (l : List ℕ) (a : AllBounded (view_of l)) (b : Feeds l) (i : ℕ) (h 
         }
 
     -- row x is not settled
-    pub unsettled : (is : List ℕ) (why : Reason) → settled (view_of l) (card_row_at c) x ≡ Unset why → Climbed l i c₀ x is (refused (Unsettled (x + 1) why))
+    pub unsettled : (is : List ℕ) (why : Reason) → settled (view_of l) (card_row_at c) x ≡ Err why → Climbed l i c₀ x is (refused (Unsettled (x + 1) why))
     unsettled is why e = refused-by (Unsettled (x + 1) why) (by-reason why e)
       where
-        by-reason : (why : Reason) → settled (view_of l) (card_row_at c) x ≡ Unset why → PathRefused l i c₀ (Unsettled (x + 1) why)
+        by-reason : (why : Reason) → settled (view_of l) (card_row_at c) x ≡ Err why → PathRefused l i c₀ (Unsettled (x + 1) why)
         by-reason (Pickup why) e =
             NO-PICKUP (card_row_at c) x why up_to
             ((no-pickup-exactly (view_of l) (card_row_at c) x (a x r.within) why).0 e)
@@ -90,7 +90,7 @@ module _ (l : List ℕ) (a : AllBounded (view_of l)) (b : Feeds l) (i : ℕ) (h 
             DELAY (card_row_at c) x d.0 up_to d.1 d.2 d.3
 
     -- row x is settled, and put in
-    module _ (o : Outcome) (e : settled (view_of l) (card_row_at c) x ≡ Set o) where
+    module _ (o : Outcome) (e : settled (view_of l) (card_row_at c) x ≡ Ok o) where
       abbrev c' : List ℕ
       c' = put_card_row c x (shown o)
 

@@ -1,6 +1,8 @@
 -- After an edit of an accepted list, a row that is not the new one and does not feed it has the same fields, fed rows and card numbers
 -- as before, so it stands at its own least settings. So do the rows off the path, and those past its first two: the path worked out on
 -- the card, as far as the climb goes, is then the whole calculation of the new list.
+use Rattle.answers.specs.Answer.{Answer, done}
+use Rattle.std.proofs.Common.{Ok, Err}
 use mathlib.Core.Path.{◌≡◌, refl, sym, ap, ◌∙◌, subst}
 use mathlib.Core.Bool.{true, false}
 use mathlib.Core.Logic.{⊎_elim}
@@ -12,8 +14,6 @@ use lib.Dec.{eqb}
 use lib.ListN.{length, drop}
 use Rattle.rowwise.specs.WorkOut.{on_passed}
 use Rattle.fold.proofs.BoolLaws.{passes-or-fails, not-both, fails}
-use Rattle.answers.specs.declared.Tested.{Tested}
-use Rattle.answers.specs.declared.Tested.TheVariants.{Passed, Refused}
 use Rattle.layout.specs.Card.{card_row_at}
 use Rattle.layout.specs.Counts.{column_count}
 use Rattle.layout.specs.List.{rows, row_at}
@@ -50,7 +50,7 @@ module _ (l c₀ c : List ℕ) (x : Accepts l c₀ c) (place : ℕ) (row : List 
   same_rows P h = subst P (edited-rows l place row f) h
 
   -- 4 and 5 pass for the new list too
-  module _ (e : rows_test l' ≡ Passed) where
+  module _ (e : rows_test l' ≡ done) where
     feeds : Feeds l'
     feeds = passed-feeds l' e
 
@@ -74,7 +74,7 @@ module _ (l c₀ c : List ℕ) (x : Accepts l c₀ c) (place : ℕ) (row : List 
         (ap (λ (x : Row). setting_most x.ratio.primary) (edited-row l place row f j n) ∙ sym (lent_other l' (place - 1) j n)) r)
         (passes-or-fails (eqb j (place - 1)))
 
-    card-passes : card_test l' (place - 1) c ≡ Passed
+    card-passes : card_test l' (place - 1) c ≡ done
     card-passes =
         get-card l' (place - 1) c
         (CardGets.passed
@@ -120,9 +120,9 @@ module _ (l c₀ c : List ℕ) (x : Accepts l c₀ c) (place : ℕ) (row : List 
   unfolding reworked on_passed
   reworked-whole = by_cases (rows_test l') refl
     where
-      by_cases : (t : Tested) → rows_test l' ≡ t → reworked l' (place - 1) c ≡ on_passed (rows_test l') (calculation l' c₀)
-      by_cases Passed e =
+      by_cases : (t : Answer) → rows_test l' ≡ t → reworked l' (place - 1) c ≡ on_passed (rows_test l') (calculation l' c₀)
+      by_cases (Ok _) e =
           rw (e, card-passes e)
           (reach-whole l' (feeds e) (place - 1) c (is_row e) (stand e) ∙
           sym (calculation-path l' (feeds e) (place - 1) (is_row e) c (rests e)) ∙ same-calculation e)
-      by_cases (Refused a) e = rw e
+      by_cases (Err a) e = rw e

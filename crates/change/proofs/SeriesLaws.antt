@@ -1,5 +1,8 @@
 -- One replacement on an accepted list and its card, beside one entry of the ledger: the same answer, the same list, and list
 -- and card accepted again.
+use Rattle.answers.specs.declared.Refusal.TheVariants.{Edit}
+use Rattle.answers.specs.Answer.{Answer, done}
+use Rattle.std.proofs.Common.{Ok, Err}
 use mathlib.Core.Path.{◌≡◌, refl, sym, ap, ◌∙◌}
 use mathlib.Core.Bool.{true, false}
 use mathlib.Core.Logic.{⊎_elim}
@@ -9,10 +12,6 @@ use native.Mathlib.Omega.{arith}
 use lib.ListN.{length, replicate, length-replicate}
 use Rattle.layout.specs.Counts.{column_count}
 use Rattle.fold.proofs.BoolLaws.{passes-or-fails, not-both}
-use Rattle.answers.specs.declared.Answer.{Answer}
-use Rattle.answers.specs.declared.Answer.TheVariants.{Done, Edit}
-use Rattle.answers.specs.declared.Tested.{Tested}
-use Rattle.answers.specs.declared.Tested.TheVariants.{Passed, Refused}
 use Rattle.layout.specs.List.{rows}
 use Rattle.rows.specs.Tests.{size_test, rows_test}
 use Rattle.rows.proofs.InRangeLaws.{passed-feeds}
@@ -31,7 +30,7 @@ use Rattle.change.proofs.EditLaws.{edit-fits, fits-edit, edit-passes, edit-refus
 
 -- the answer of the whole calculation does not depend on the card, where it has room
 answer-same :
-    (l c c' : List ℕ) → size_test (length l) (length c) ≡ Passed → size_test (length l) (length c') ≡ Passed → (whole l c).answer ≡
+    (l c c' : List ℕ) → size_test (length l) (length c) ≡ done → size_test (length l) (length c') ≡ done → (whole l c).answer ≡
     (whole l c').answer
 unfolding ending on_passed framed
 answer-same l c c' s s' =
@@ -43,13 +42,13 @@ answer-same l c c' s s' =
     by-work (refused a) = refl
 
     by_cases :
-        (t : Tested) → rows_test l ≡ t →
+        (t : Answer) → rows_test l ≡ t →
         (ending c (on_passed (rows_test l) (calculation l c))).answer ≡ (ending c' (on_passed (rows_test l) (calculation l c'))).answer
-    by_cases Passed e =
+    by_cases (Ok _) e =
         let k = size-passed (length l) (length c) s in
         let k' = size-passed (length l) (length c') s' in
         rw (e, calculation-frame l (passed-feeds l e) c c' (omega (arith, k.card-room)) (omega (arith, k'.card-room))) (by-work (calculation l c))
-    by_cases (Refused a) e = rw e
+    by_cases (Err a) e = rw e
 
 pub edit-cases :
     {P : Type 0} (l : List ℕ) (place : ℕ) (row : List ℕ) → (EditFits l place row → edit_right l place row ≡ true → P) →
@@ -58,20 +57,20 @@ edit-cases l place row f g = ⊎_elim (λ e. f (edit-fits l place row e) e) g (p
 
 -- EDIT applies
 pub replaced-edit :
-    (l c : List ℕ) (place : ℕ) (row : List ℕ) → size_test (length l) (length c) ≡ Passed → edit_right l place row ≡ false →
+    (l c : List ℕ) (place : ℕ) (row : List ℕ) → size_test (length l) (length c) ≡ done → edit_right l place row ≡ false →
     replaced l c place row ≡ record { answer = Edit; list = l; card = c; count = 0 }
 unfolding replaced on_passed outcome
 replaced-edit l c place row s e = rw (s, sym (edit-refuses l place row (λ f. not-both (fits-edit l place row f) e)))
 
 -- EDIT does not apply
 pub replaced-edited :
-    (l c : List ℕ) (place : ℕ) (row : List ℕ) → size_test (length l) (length c) ≡ Passed → EditFits l place row →
+    (l c : List ℕ) (place : ℕ) (row : List ℕ) → size_test (length l) (length c) ≡ done → EditFits l place row →
     replaced l c place row ≡ outcome l c (put_list l (place - 1) row) (place - 1) (reworked (put_list l (place - 1) row) (place - 1) c)
 unfolding replaced on_passed
 replaced-edited l c place row s f = rw (s, sym (edit-passes l place row f))
 
 module _ (l c₀ c : List ℕ) (x : Accepts l c₀ c) where
-  pub size-again : size_test (length l) (length c) ≡ Passed
+  pub size-again : size_test (length l) (length c) ≡ done
   size-again = rw (accepted-length l c₀ c x) x.size
 
   module _ (place : ℕ) (row : List ℕ) (f : EditFits l place row) where
@@ -79,7 +78,7 @@ module _ (l c₀ c : List ℕ) (x : Accepts l c₀ c) where
     abbrev pub made : Worked
     made = on_passed (rows_test (put_list l (place - 1) row)) (calculation (put_list l (place - 1) row) c₀)
 
-    made-size : size_test (length (put_list l (place - 1) row)) (length c₀) ≡ Passed
+    made-size : size_test (length (put_list l (place - 1) row)) (length c₀) ≡ done
     made-size = rw (edited-length l place row f) x.size
 
     pub replaced-made : replaced l c place row ≡ outcome l c (put_list l (place - 1) row) (place - 1) made
@@ -111,10 +110,10 @@ module _ (l c₀ c : List ℕ) (x : Accepts l c₀ c) where
 pub record Agrees (c₀ : List ℕ) (r : Replaced) (e : Entry) : Type 0 where
   pub answer : r.answer ≡ e.answer
   pub list : r.list ≡ e.list
-  pub accepted : whole r.list c₀ ≡ record { answer = Done; card = r.card }
+  pub accepted : whole r.list c₀ ≡ record { answer = done; card = r.card }
 
 pub one-agrees :
-    (l c₀ c : List ℕ) → whole l c₀ ≡ record { answer = Done; card = c } → (place : ℕ) (row : List ℕ) →
+    (l c₀ c : List ℕ) → whole l c₀ ≡ record { answer = done; card = c } → (place : ℕ) (row : List ℕ) →
     Agrees c₀ (replaced l c place row) (entered l place row)
 unfolding entered kept outcome ending
 one-agrees l c₀ c g place row =

@@ -1,5 +1,7 @@
 -- Where every row off a path stands at its own least settings, the calculation of all rows ends as that of the path: a row
 -- off the path is written with what stands there, and the rows of the path ascend.
+use Rattle.settle.specs.Outcomes.{Settled}
+use Rattle.std.proofs.Common.{Ok, Err}
 use mathlib.Core.Path.{◌≡◌, refl, sym, ap, ◌∙◌}
 use mathlib.Core.Bool.{true, false}
 use mathlib.Core.Logic.{⊎_elim}
@@ -19,8 +21,6 @@ use Rattle.layout.specs.List.{rows, field}
 use Rattle.layout.specs.View.{view_of}
 use Rattle.layout.proofs.CardLaws.{put_card_row-other, put_card_row-stands}
 use Rattle.rows.specs.InRange.{Feeds}
-use Rattle.settle.specs.declared.Settled.{Settled}
-use Rattle.settle.specs.declared.Settled.TheVariants.{Set, Unset}
 use Rattle.settle.specs.Conditions.{fed}
 use Rattle.settle.specs.Settle.{shown, settled}
 use Rattle.settle.proofs.SameLaws.{settled_same}
@@ -49,8 +49,8 @@ work_out-skip l j is c r = rw (r.settles, ← r.shows) (ap (work_out l is) (put_
 
 settled-then : (i : ℕ) (s : Settled) (f g : CardRow → Worked) → ((k : CardRow) → f k ≡ g k) → on_settled i s f ≡ on_settled i s g
 unfolding on_settled
-settled-then i (Set o) f g e = e (shown o)
-settled-then i (Unset why) f g e = refl
+settled-then i (Ok o) f g e = e (shown o)
+settled-then i (Err why) f g e = refl
 
 module _ (l : List ℕ) (b : Feeds l) (i : ℕ) (h : i < rows l) where
   -- every row off the path of row i stands at its own least settings

@@ -2,9 +2,9 @@
 -- answer is still fixed: the conditions applied along the path to those numbers", up to the first feeding row, after the replaced one,
 -- whose new card row equals its old one; "rows past the stop keep what they had". l is the list with the new row in it, i that row, c
 -- the card as it is found, k the settings of every row. The rows of a path ascend. Rows are counted from 0. Definitions only.
+use Rattle.answers.specs.declared.Refusal.TheVariants.{Unsettled}
+use Rattle.answers.specs.Answer.{Answer}
 use Rattle.std.specs.Prelude.{◌≡◌, ◌⊎◌, List, ℕ, ◌+◌, ◌≤◌, ◌<◌}
-use Rattle.answers.specs.declared.Answer.{Answer}
-use Rattle.answers.specs.declared.Answer.TheVariants.{Unsettled}
 use Rattle.answers.specs.declared.Cause.{Cause}
 use Rattle.answers.specs.declared.Reason.TheVariants.{Pickup, Curve, Delay}
 use Rattle.layout.specs.Card.{card_row_at}

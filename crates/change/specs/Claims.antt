@@ -1,8 +1,8 @@
 -- [00, demand 3; 01 §4] What is claimed of a series of replacements, of one on an accepted list and its card, and of one that is done
 -- with any card. An accepted list l with its card c: `whole l c₀` is Done with card c, where c₀ is the card as it was lent.
 -- Definitions only.
+use Rattle.answers.specs.Answer.{done}
 use Rattle.std.specs.Prelude.{◌≡◌, ◌⊎◌, List, ℕ, ◌+◌, ◌-◌, ◌*◌, ◌≤◌, ◌<◌, length, get_or, drop}
-use Rattle.answers.specs.declared.Answer.TheVariants.{Done}
 use Rattle.layout.specs.Card.{card_row_at}
 use Rattle.layout.specs.Counts.{field_count, column_count}
 use Rattle.layout.specs.List.{rows}
@@ -18,7 +18,7 @@ use Rattle.change.specs.Series.{Request, replacements, ledger}
 pub record AfterSeries (l c₀ c : List ℕ) (series : List Request) : Type 0 where
   pub answers : (replacements l c series).answers ≡ (ledger l series).answers
   pub list : (replacements l c series).list ≡ (ledger l series).list
-  pub accepted : (whole (ledger l series).list c₀).answer ≡ Done
+  pub accepted : (whole (ledger l series).list c₀).answer ≡ done
   pub card : (replacements l c series).card ≡ (whole (ledger l series).list c₀).card
   pub card-again : (replacements l c series).card ≡ (whole (ledger l series).list c).card
 
@@ -27,8 +27,8 @@ pub record AfterSeries (l c₀ c : List ℕ) (series : List Request) : Type 0 wh
 pub record AsWhole (l c₀ c : List ℕ) (place : ℕ) (row : List ℕ) : Type 0 where
   pub answer : (replaced l c place row).answer ≡ (whole (put_list l (place - 1) row) c₀).answer
   pub answer-on-card : (replaced l c place row).answer ≡ (whole (put_list l (place - 1) row) c).answer
-  pub list-when-done : (replaced l c place row).answer ≡ Done → (replaced l c place row).list ≡ put_list l (place - 1) row
-  pub card-when-done : (replaced l c place row).answer ≡ Done → (replaced l c place row).card ≡ (whole (put_list l (place - 1) row) c₀).card
+  pub list-when-done : (replaced l c place row).answer ≡ done → (replaced l c place row).list ≡ put_list l (place - 1) row
+  pub card-when-done : (replaced l c place row).answer ≡ done → (replaced l c place row).card ≡ (whole (put_list l (place - 1) row) c₀).card
 
 -- "After a replacement that is done the list holds the new row in the old one's place and is otherwise unchanged"; "card rows off
 -- the replaced row's path to the source keep their numbers"; "card numbers past 3 per row are unchanged" (5 per row with [02 §3]): with any card. l' and c'

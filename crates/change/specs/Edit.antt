@@ -1,10 +1,9 @@
 -- [01 §4] 10 EDIT: which new rows fit into a list, as a reader would say it and as the test that is proved to say exactly that;
 -- and the list with one in its place. Definitions only.
-use Rattle.std.specs.Prelude.{◌≡◌, Bool, cond, ◌&&◌, List, ◌++◌, ℕ, ◌+◌, ◌-◌, ◌*◌, ◌≤◌, leb, eqb, length, get_or, take, drop}
+use Rattle.answers.specs.declared.Refusal.TheVariants.{Edit}
+use Rattle.answers.specs.Answer.{Answer, done}
+use Rattle.std.specs.Prelude.{◌≡◌, Bool, cond, ◌&&◌, List, ◌++◌, ℕ, ◌+◌, ◌-◌, ◌*◌, ◌≤◌, leb, eqb, length, get_or, take, drop, Err}
 use Rattle.layout.specs.Counts.{field_count}
-use Rattle.answers.specs.declared.Answer.TheVariants.{Edit}
-use Rattle.answers.specs.declared.Tested.{Tested}
-use Rattle.answers.specs.declared.Tested.TheVariants.{Passed, Refused}
 use Rattle.layout.specs.Fields.{at_feeder}
 use Rattle.layout.specs.List.{rows, field}
 
@@ -26,8 +25,8 @@ edit_right l place row =
     (leb 1 place && leb place (rows l)) && (eqb (length row) field_count &&
     (eqb (get_or row 0 0) place && eqb (get_or row at_feeder 0) (field l (place - 1) at_feeder)))
 
-unfoldable pub edit_test : List ℕ → ℕ → List ℕ → Tested
-edit_test l place row = cond (edit_right l place row) Passed (Refused Edit)
+unfoldable pub edit_test : List ℕ → ℕ → List ℕ → Answer
+edit_test l place row = cond (edit_right l place row) done (Err Edit)
 
 -- row i of the list can be written: 22 numbers in the place of 22
 pub record PutReady (l : List ℕ) (i : ℕ) (row : List ℕ) : Type 0 where

@@ -2,9 +2,9 @@
 -- list as it would be, then 9 over all rows ascending, then 6 and 7 along the path", with 11, 12 and 13 where 6 stood and 14 before 7, as
 -- far as the climb goes. Each answer stands with all that comes before it in this order absent. Rows and fields are counted from 0, places in
 -- answers from 1. Definitions only.
+use Rattle.answers.specs.declared.Refusal.TheVariants.{Count, Room, Field, Tree, Card, Edit}
+use Rattle.answers.specs.Answer.{Answer, done}
 use Rattle.std.specs.Prelude.{List, ℕ, ◌+◌, ◌-◌, length}
-use Rattle.answers.specs.declared.Answer.{Answer}
-use Rattle.answers.specs.declared.Answer.TheVariants.{Done, Count, Room, Edit, Field, Tree, Card}
 use Rattle.layout.specs.View.{Settings}
 use Rattle.path.specs.CardTest.{CardInRange, FirstCardOut}
 use Rattle.rows.specs.InRange.{RightSize, HasRoom, InRange, Feeds, FirstOutOfRange, FirstMisfed}
@@ -43,4 +43,4 @@ pub data ReplacementGets (l c : List ℕ) (place : ℕ) (row : List ℕ) : Answe
   UNSETTLED :
       {a : Answer} → Passes l c place row → PathRefused (made l place row) (place - 1) c a → ReplacementGets l c place row a
   DONE :
-      (k : Settings) (last : ℕ) → Passes l c place row → WorkedTo (made l place row) (place - 1) c k last → ReplacementGets l c place row Done
+      (k : Settings) (last : ℕ) → Passes l c place row → WorkedTo (made l place row) (place - 1) c k last → ReplacementGets l c place row done

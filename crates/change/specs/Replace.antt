@@ -2,9 +2,8 @@
 -- card afterwards, and how many rows were worked out. The order is 2, 3, 10, then 4 and 5 over the list as it would be, then 9 over
 -- all rows, then 11, 12 or 13 before 14 and 14 before 7 along the path as far as the change goes, the other card rows read as they are found. A
 -- refusal leaves list and card, and counts no row. Definitions only.
+use Rattle.answers.specs.Answer.{Answer, done}
 use Rattle.std.specs.Prelude.{List, ℕ, ◌-◌, length}
-use Rattle.answers.specs.declared.Answer.{Answer}
-use Rattle.answers.specs.declared.Answer.TheVariants.{Done}
 use Rattle.rows.specs.Tests.{size_test, rows_test}
 use Rattle.rowwise.specs.WorkOut.{Worked, finished, refused, work_out, on_passed}
 use Rattle.change.specs.Edit.{put_list, edit_test}
@@ -24,7 +23,7 @@ pub record Replaced : Type 0 where
 -- how it ends, row i of l' being the new one: with the new list and card and the count of the rows worked out, or with a refusal and
 -- the old ones
 unfoldable pub outcome : List ℕ → List ℕ → List ℕ → ℕ → Worked → Replaced
-outcome l c l' i (finished c') = record { answer = Done; list = l'; card = c'; count = length (reach l' i c) }
+outcome l c l' i (finished c') = record { answer = done; list = l'; card = c'; count = length (reach l' i c) }
 outcome l c l' i (refused a) = record { answer = a; list = l; card = c; count = 0 }
 
 unfoldable pub replaced : List ℕ → List ℕ → ℕ → List ℕ → Replaced

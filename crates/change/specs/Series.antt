@@ -1,9 +1,8 @@
 -- [01 §4] A series of replacements, and the plain ledger that it is compared with. Definitions only.
+use Rattle.answers.specs.declared.Refusal.TheVariants.{Edit}
 use Rattle.std.specs.Prelude.{cond, List, [], ◌∷◌, ℕ, ◌-◌, ◌*◌, eqb, replicate}
 use Rattle.layout.specs.Counts.{column_count}
-use Rattle.answers.specs.declared.Answer.{Answer}
-use Rattle.answers.specs.declared.Answer.TheVariants.{Edit}
-use Rattle.answers.specs.Answer.{number_of}
+use Rattle.answers.specs.Answer.{number_of, Answer}
 use Rattle.layout.specs.List.{rows}
 use Rattle.calculate.specs.Whole.{whole}
 use Rattle.change.specs.Edit.{put_list, edit_right}

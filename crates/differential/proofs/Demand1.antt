@@ -1,11 +1,11 @@
 -- What any eight numbers get [02 §11]: `differential_of` gives exactly what the request says, INPUT and SLOPE exactly when it says so, and nothing
 -- else. By cases on the first input out of its range and on the least slope.
+use Rattle.answers.specs.declared.Refusal.TheVariants.{Input, Slope}
 use Rattle.std.proofs.Common.{Option, Some, None}
 use mathlib.Core.Path.{◌≡◌, refl, sym, ap, ◌∙◌, subst}
 use mathlib.Core.Logic.{◌↔◌}
 use Prim.Native.Nat.{ℕ, ◌+◌, ◌-◌}
 use native.Mathlib.Omega.{arith}
-use Rattle.answers.specs.declared.Answer.TheVariants.{Input, Slope}
 use Rattle.differential.specs.declared.Given.{Given}
 use Rattle.differential.specs.declared.Inputs.{Inputs}
 use Rattle.differential.specs.declared.Verdict.{Verdict}

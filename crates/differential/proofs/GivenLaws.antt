@@ -1,8 +1,8 @@
 -- Laws of `differential_of`, one for each way that it ends.
+use Rattle.answers.specs.declared.Refusal.TheVariants.{Input, Slope}
 use Rattle.std.proofs.Common.{Some, None}
 use mathlib.Core.Path.{◌≡◌}
 use Prim.Native.Nat.{ℕ, ◌+◌}
-use Rattle.answers.specs.declared.Answer.TheVariants.{Input, Slope}
 use Rattle.differential.specs.declared.Inputs.{Inputs}
 use Rattle.differential.specs.Inputs.{first_outside}
 use Rattle.differential.specs.Slope.{least_slope}

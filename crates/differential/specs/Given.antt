@@ -1,7 +1,7 @@
 -- [02 §11] What the eight inputs are given: the card's five and the verdict, or a refusal. Definitions only.
+use Rattle.answers.specs.declared.Refusal.TheVariants.{Input, Slope}
+use Rattle.answers.specs.Answer.{Answer}
 use Rattle.std.specs.Prelude.{ℕ, ◌+◌, Option, Some, None}
-use Rattle.answers.specs.declared.Answer.{Answer}
-use Rattle.answers.specs.declared.Answer.TheVariants.{Input, Slope}
 use Rattle.answers.specs.Answer as answer
 use Rattle.differential.specs.declared.Given.{Given}
 use Rattle.differential.specs.declared.Inputs.{Inputs}

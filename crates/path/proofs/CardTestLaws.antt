@@ -1,5 +1,7 @@
 -- The test 9 CARD exactly: a card in range passes, and any other is refused at the first row that is out of range.
-use Rattle.std.proofs.Common.{Option, Some, None}
+use Rattle.answers.specs.declared.Refusal.TheVariants.{Card}
+use Rattle.answers.specs.Answer.{Answer, done}
+use Rattle.std.proofs.Common.{Option, Some, None, Err}
 use mathlib.Core.Path.{◌≡◌, refl, sym, ap, ◌∙◌, subst}
 use mathlib.Core.Bool.{Bool, true, false, not}
 use mathlib.Core.Logic.{◌↔◌}
@@ -12,9 +14,6 @@ use Rattle.fold.specs.Fold.{every}
 use Rattle.fold.proofs.BoolLaws.{fails, not-both}
 use Rattle.fold.proofs.FirstLaws.{first-at, first-is, first-none, first-nothing}
 use Rattle.fold.proofs.FoldLaws.{every-at, every_of, every_more, every-fails}
-use Rattle.answers.specs.declared.Answer.TheVariants.{Card}
-use Rattle.answers.specs.declared.Tested.{Tested}
-use Rattle.answers.specs.declared.Tested.TheVariants.{Passed, Refused}
 use Rattle.layout.specs.Card.{column, card_row_at, column_bounds_to}
 use Rattle.layout.specs.Counts.{column_count}
 use Rattle.layout.specs.Fields.{at_primary, in_bounds}
@@ -94,15 +93,15 @@ module _ (t c : List ℕ) (j : ℕ) where
     righted-fails h p = sym (every-fails (column_right t c j) column_count k h (judged ∙ p))
 
 module _ (l : List ℕ) (i : ℕ) (c : List ℕ) where
-  pub card-refuses : (j : ℕ) → first (λ j. not (card_right l i c j)) 0 (rows l) ≡ Some j → Refused (Card (j + 1)) ≡ card_test l i c
+  pub card-refuses : (j : ℕ) → first (λ j. not (card_right l i c j)) 0 (rows l) ≡ Some j → Err (Card (j + 1)) ≡ card_test l i c
   unfolding card_test card_answer
   card-refuses j e = rw e
 
-  pub card-passes : first (λ j. not (card_right l i c j)) 0 (rows l) ≡ None → Passed ≡ card_test l i c
+  pub card-passes : first (λ j. not (card_right l i c j)) 0 (rows l) ≡ None → done ≡ card_test l i c
   unfolding card_test card_answer
   card-passes e = rw e
 
-  pub get-card : {t : Tested} → CardGets l i c t → card_test l i c ≡ t
+  pub get-card : {t : Answer} → CardGets l i c t → card_test l i c ≡ t
   get-card (CardGets.passed f) =
       sym (card-passes (first-none (λ j. not (card_right l i c j)) (rows l) 0 (λ j a b. rw (fits-card l i c j (f j (omega arith))))))
   get-card (CardGets.CARD j f) =
@@ -116,7 +115,7 @@ module _ (l : List ℕ) (i : ℕ) (c : List ℕ) where
   pub card-gets : CardGets l i c (card_test l i c)
   card-gets = by_cases (first (λ j. not (card_right l i c j)) 0 (rows l)) refl
     where
-      given : {t : Tested} → CardGets l i c t → CardGets l i c (card_test l i c)
+      given : {t : Answer} → CardGets l i c t → CardGets l i c (card_test l i c)
       given g = subst (CardGets l i c) (sym (get-card g)) g
 
       by_cases : (f : Option ℕ) → first (λ j. not (card_right l i c j)) 0 (rows l) ≡ f → CardGets l i c (card_test l i c)
@@ -134,11 +133,11 @@ module _ (l : List ℕ) (i : ℕ) (c : List ℕ) where
           (CardGets.passed
           (λ j h. card-fits l i c j (not-false _ (first-nothing (λ j. not (card_right l i c j)) (rows l) 0 e j (omega arith) (omega arith)))))
 
-  pub card-exactly : (t : Tested) → (card_test l i c ≡ t) ↔ CardGets l i c t
+  pub card-exactly : (t : Answer) → (card_test l i c ≡ t) ↔ CardGets l i c t
   card-exactly t = (λ e. subst (CardGets l i c) e card-gets, get-card)
 
-  pub card-passed : card_test l i c ≡ Passed → CardInRange l i c
+  pub card-passed : card_test l i c ≡ done → CardInRange l i c
   card-passed e = by_cases (subst (CardGets l i c) e card-gets)
     where
-      by_cases : CardGets l i c Passed → CardInRange l i c
+      by_cases : CardGets l i c done → CardInRange l i c
       by_cases (CardGets.passed f) = f

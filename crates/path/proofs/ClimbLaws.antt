@@ -1,18 +1,17 @@
 -- One row of a climb: row i is settled by its sums, and by its fed rows as the card has them, as section 3 says, since all rows that it feeds
 -- are off its path, and so done.
+use Rattle.settle.specs.Outcomes.{Settled}
+use Rattle.answers.specs.declared.Refusal.{Refusal}
+use Rattle.answers.specs.Answer.{Answer, done}
+use Rattle.std.proofs.Common.{Result, Ok, Err}
 use mathlib.Core.Path.{◌≡◌, refl, sym, ap, ◌∙◌}
 use mathlib.Core.Bool.{Bool, true, not}
 use mathlib.Core.List.{List}
 use Prim.Native.Nat.{ℕ, ◌+◌, ◌-◌, ◌≤◌, ◌<◌}
 use native.Mathlib.Omega.{arith}
-use Rattle.answers.specs.declared.Answer.{Answer}
-use Rattle.answers.specs.declared.Tested.{Tested}
-use Rattle.answers.specs.declared.Tested.TheVariants.{Passed, Refused}
 use Rattle.layout.specs.Card.{card_row_at, put_card_row}
 use Rattle.layout.specs.List.{rows, row_at}
 use Rattle.layout.specs.View.{view_of}
-use Rattle.settle.specs.declared.Settled.{Settled}
-use Rattle.settle.specs.declared.Settled.TheVariants.{Set, Unset}
 use Rattle.settle.specs.Conditions.{fed}
 use Rattle.settle.specs.Fed.{CardBounded}
 use Rattle.settle.specs.Settle.{shown, settled}
@@ -24,7 +23,6 @@ use Rattle.rowwise.proofs.EndLaws.{never-passed, same_answer}
 use Rattle.rowwise.proofs.StepsLaws.{one-row, one-row-ready}
 use Rattle.rowwise.proofs.WorkingLaws.{work-ready, work-settles, settled-to}
 use Rattle.path.specs.Path.{path_of, on_path}
-use Rattle.path.specs.declared.HowFar.{HowFar}
 use Rattle.path.specs.Reach.{reach_from, comes_to, refused-there}
 use Rattle.path.specs.Ready.{ClimbReady, far_of, card_of, WorkedOut}
 use Rattle.path.proofs.PathLaws.{on-self, on-feeder, off-below}
@@ -64,37 +62,37 @@ module _ (l links : List ℕ) (i : ℕ) (c s : List ℕ) (r : ClimbReady l links
   comes = sym settles
 
   -- the row's own step
-  module _ (t : Tested) (c' s' : List ℕ) (worked : Stepped (steps l i (i + 1 - i) c s) t c' s') where
+  module _ (t : Answer) (c' s' : List ℕ) (worked : Stepped (steps l i (i + 1 - i) c s) t c' s') where
     z : Stepped (step l i c s) t c' s'
     z = rw (one-row l i c s) at worked
 
     pub climb-refused :
-        (feeding : Bool) (a : Answer) → t ≡ Refused a → WorkedOut l (reach_from l feeding (path_of l i) c) c (HowFar.Refused a) c'
+        (feeding : Bool) (a : Answer) → t ≡ Err a → WorkedOut l (reach_from l feeding (path_of l i) c) c (Result ℕ Refusal.Refused a) c'
     unfolding step step_by work_out on_settled far_of card_of
     climb-refused feeding a e = by_cases (settled_at l i c s) comes z
       where
         by_cases :
             (o : Settled) → comes_to l i c ≡ o → Stepped (step_by l i c s o) t c' s' →
-            WorkedOut l (reach_from l feeding (path_of l i) c) c (HowFar.Refused a) c'
-        by_cases (Set o) q z = absurd (never-passed (sym z.answer ∙ e))
-        by_cases (Unset why) q z =
+            WorkedOut l (reach_from l feeding (path_of l i) c) c (Result ℕ Refusal.Refused a) c'
+        by_cases (Ok o) q z = absurd (never-passed (sym z.answer ∙ e))
+        by_cases (Err why) q z =
             rw (get-reached l r.working.feeds r.is_row (refused-there feeding i c why q), q)
-            (record { far = ap HowFar.Refused (same_answer (sym e ∙ z.answer)); card = z.card })
+            (record { far = ap Result ℕ Refusal.Refused (same_answer (sym e ∙ z.answer)); card = z.card })
 
     -- what it comes to, where it passed
     pub record Comes : Type 0 where
       pub outcome : Outcome
-      pub comes-to : comes_to l i c ≡ Set outcome
+      pub comes-to : comes_to l i c ≡ Ok outcome
       pub bounded : CardBounded (row_at l i) (shown outcome)
       pub card : c' ≡ put_card_row c i (shown outcome)
       pub sums : s' ≡ pushed (row_at l i) (shown outcome) s
 
-    pub climb-passes : t ≡ Passed → Comes
+    pub climb-passes : t ≡ done → Comes
     unfolding step step_by
     climb-passes e = by_cases (settled_at l i c s) refl z
       where
         by_cases : (o : Settled) → settled_at l i c s ≡ o → Stepped (step_by l i c s o) t c' s' → Comes
-        by_cases (Set o) q z =
+        by_cases (Ok o) q z =
             record {
               outcome = o;
               comes-to = comes ∙ q;
@@ -102,4 +100,4 @@ module _ (l links : List ℕ) (i : ℕ) (c s : List ℕ) (r : ClimbReady l links
               card = z.card;
               sums = z.sums;
             }
-        by_cases (Unset why) q z = absurd (never-passed (sym e ∙ z.answer))
+        by_cases (Err why) q z = absurd (never-passed (sym e ∙ z.answer))

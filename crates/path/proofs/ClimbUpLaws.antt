@@ -1,5 +1,8 @@
 -- The climb past a row that is settled: it ends there, being fed by the source or a feeding row that comes out as it was, or the path of
 -- its feeding row is worked out on the card with the row put in; on a refusal there the old numbers go back.
+use Rattle.answers.specs.declared.Refusal.{Refusal}
+use Rattle.answers.specs.Answer.{Answer}
+use Rattle.std.proofs.Common.{Result, Ok}
 use mathlib.Core.Path.{◌≡◌, refl, sym, ap, ap₂, ◌∙◌, subst}
 use mathlib.Core.Bool.{Bool, true, false, ◌&&◌, ◌||◌, or-true, or-false}
 use mathlib.Core.Logic.{⊎_elim}
@@ -10,8 +13,6 @@ use lib.Dec.{eqb}
 use lib.ListN.{length}
 use borrow.Author.Tests.{eqb-true}
 use Rattle.fold.proofs.BoolLaws.{passes-or-fails, not-both}
-use Rattle.answers.specs.declared.Answer.{Answer}
-use Rattle.answers.specs.declared.Tested.{Tested}
 use Rattle.layout.specs.declared.CardRow.{CardRow}
 use Rattle.layout.specs.Card.{card_row_at, put_card_row, same_card_row}
 use Rattle.layout.specs.Counts.{rows_most}
@@ -24,8 +25,6 @@ use Rattle.rowwise.specs.Sums.{pushed, steps}
 use Rattle.rowwise.specs.WorkOut.{on_settled, work_out}
 use Rattle.rowwise.proofs.WorkingLaws.{work-next}
 use Rattle.path.specs.Path.{path_of, on_path}
-use Rattle.path.specs.declared.HowFar.{HowFar}
-use Rattle.path.specs.declared.HowFar.TheVariants.{Rows}
 use Rattle.path.specs.Reach.{reach_from, Reaches, at_source, as_it_was, goes_on}
 use Rattle.path.specs.Ready.{ClimbReady, far_of, card_of, WorkedOut}
 use Rattle.path.proofs.ReachRowsLaws.{reach-length}
@@ -35,13 +34,13 @@ use Rattle.rows.specs.InRange.{Feeds}
 use Rattle.path.proofs.ReachLaws.{stops-exactly, get-reached, reaches-from}
 use Rattle.path.proofs.ClimbLaws.{off, climb-works, Comes}
 
-module _ {l links : List ℕ} {i : ℕ} {c s : List ℕ} {r : ClimbReady l links i c s} {t : Tested} {c' s' : List ℕ}
+module _ {l links : List ℕ} {i : ℕ} {c s : List ℕ} {r : ClimbReady l links i c s} {t : Answer} {c' s' : List ℕ}
     {z : Stepped (steps l i (i + 1 - i) c s) t c' s'} (p : Comes l links i c s r t c' s' z) (feeding : Bool) where
   abbrev feeds : Feeds l
   feeds = r.working.feeds
 
   -- no row follows it
-  ends : Reaches l feeding i c (i ∷ []) → WorkedOut l (reach_from l feeding (path_of l i) c) c (Rows 1) c'
+  ends : Reaches l feeding i c (i ∷ []) → WorkedOut l (reach_from l feeding (path_of l i) c) c (Ok 1) c'
   unfolding work_out on_settled far_of card_of
   ends x = rw (get-reached l feeds r.is_row x, p.comes-to) (record { far = refl; card = p.card })
 
@@ -52,14 +51,14 @@ module _ {l links : List ℕ} {i : ℕ} {c s : List ℕ} {r : ClimbReady l links
         let own = put_card_row-own c i (shown p.outcome) (climb-works l links i c s r).in-card in
         eb ∙ ap₂ (λ (x y : CardRow). feeding && same_card_row x y) eo (ap (λ (x : List ℕ). card_row_at x i) p.card ∙ own)
 
-    pub climb-stops : b ≡ true → WorkedOut l (reach_from l feeding (path_of l i) c) c (Rows 1) c'
+    pub climb-stops : b ≡ true → WorkedOut l (reach_from l feeding (path_of l i) c) c (Ok 1) c'
     climb-stops q =
         let w = (stops-exactly feeding (card_row_at c i) (shown p.outcome)).0 (sym stops ∙ q) in
         ends (subst (λ (f : Bool). Reaches l f i c (i ∷ [])) (sym w.0) (as_it_was i c p.outcome p.comes-to w.1))
 
     module _ (go : b ≡ false) (f : ℕ) (ef : f ≡ field l i at_feeder) where
       -- the source feeds it: the path ends
-      pub climb-source : f ≡ 0 → WorkedOut l (reach_from l feeding (path_of l i) c) c (Rows 1) c'
+      pub climb-source : f ≡ 0 → WorkedOut l (reach_from l feeding (path_of l i) c) c (Ok 1) c'
       climb-source q = ends (at_source feeding i c p.outcome p.comes-to (sym ef ∙ q))
 
       module _ (n : f ≡ 0 → ⊥) where
@@ -119,9 +118,9 @@ module _ {l links : List ℕ} {i : ℕ} {c s : List ℕ} {r : ClimbReady l links
 
         -- a refusal above: the row's old numbers go back
         pub climb-back :
-            (x : HowFar) (a : Answer) (c'' c''' : List ℕ) → WorkedOut l (reach_from l true (path_of l (f - 1)) c') c' x c'' →
-            x ≡ HowFar.Refused a → c''' ≡ put_card_row c'' i old →
-            WorkedOut l (reach_from l feeding (path_of l i) c) c (HowFar.Refused a) c'''
+            (x : Result ℕ Refusal) (a : Answer) (c'' c''' : List ℕ) → WorkedOut l (reach_from l true (path_of l (f - 1)) c') c' x c'' →
+            x ≡ Result ℕ Refusal.Refused a → c''' ≡ put_card_row c'' i old →
+            WorkedOut l (reach_from l feeding (path_of l i) c) c (Result ℕ Refusal.Refused a) c'''
         unfolding far_of card_of
         climb-back x a c'' c''' w g b''' =
             let b = reworked-refused _ _ c' x c'' w a g in
@@ -133,17 +132,17 @@ module _ {l links : List ℕ} {i : ℕ} {c s : List ℕ} {r : ClimbReady l links
             })
 
         pub climb-done :
-            (x : HowFar) (m : ℕ) (c'' : List ℕ) → WorkedOut l (reach_from l true (path_of l (f - 1)) c') c' x c'' → x ≡ Rows m →
-            WorkedOut l (reach_from l feeding (path_of l i) c) c (Rows (m + 1)) c''
+            (x : Result ℕ Refusal) (m : ℕ) (c'' : List ℕ) → WorkedOut l (reach_from l true (path_of l (f - 1)) c') c' x c'' → x ≡ Ok m →
+            WorkedOut l (reach_from l feeding (path_of l i) c) c (Ok (m + 1)) c''
         unfolding far_of card_of
         climb-done x m c'' w g =
             let b = reworked-done _ _ c' x c'' w m g in
             let count : m + 1 ≡ length (i ∷ higher) = omega (arith, b.1) in
-            rw (climb-above ∙ b.0, climb-rows) (record { far = ap Rows count; card = refl })
+            rw (climb-above ∙ b.0, climb-rows) (record { far = ap Ok count; card = refl })
 
         -- a path has no more rows than the list
         pub climb-counts :
-            (x : HowFar) (m : ℕ) (c'' : List ℕ) → WorkedOut l (reach_from l true (path_of l (f - 1)) c') c' x c'' → x ≡ Rows m →
+            (x : Result ℕ Refusal) (m : ℕ) (c'' : List ℕ) → WorkedOut l (reach_from l true (path_of l (f - 1)) c') c' x c'' → x ≡ Ok m →
             m ≤ rows_most
         climb-counts x m c'' w g =
             let b = reworked-done _ _ c' x c'' w m g in

@@ -1,4 +1,6 @@
 -- [02 §8] The rows that are listed are those that a change reaches.
+use Rattle.settle.specs.Outcomes.{Settled}
+use Rattle.std.proofs.Common.{Ok, Err}
 use mathlib.Core.Path.{◌≡◌, refl, sym, ap, ◌∙◌, subst}
 use mathlib.Core.Bool.{Bool, true, false, cond, ◌&&◌}
 use mathlib.Core.Logic.{◌↔◌, ⊎_elim}
@@ -15,8 +17,6 @@ use Rattle.layout.specs.List.{rows, field}
 use Rattle.layout.proofs.CardLaws.{same-card-row-exactly}
 use Rattle.rows.specs.InRange.{Feeds}
 use Rattle.settle.specs.declared.Outcome.{Outcome}
-use Rattle.settle.specs.declared.Settled.{Settled}
-use Rattle.settle.specs.declared.Settled.TheVariants.{Set, Unset}
 use Rattle.settle.specs.Settle.{shown}
 use Rattle.path.specs.Path.{path_of}
 use Rattle.path.specs.Reach.{comes_to, Reaches, refused-there, at_source, as_it_was, goes_on, onward, reach_from, reach}
@@ -54,13 +54,13 @@ module _ (l : List ℕ) (b : Feeds l) where
       alone :
           field l x at_feeder ≡ 0 → (s : Settled) → comes_to l x c ≡ s →
           Reaches l feeding x c (x ∷ onward feeding (card_row_at c x) s (λ k. reach_from l true [] (put_card_row c x k)))
-      alone z (Set o) e =
+      alone z (Ok o) e =
           subst (λ (is : List ℕ). Reaches l feeding x c (x ∷ is)) (sym (cond-nil (feeding && same_card_row (card_row_at c x) (shown o))))
           (at_source feeding x c o e z)
-      alone z (Unset why) e = refused-there feeding x c why e
+      alone z (Err why) e = refused-there feeding x c why e
 
       by-test :
-          (is : List ℕ) (n : field l x at_feeder ≡ 0 → ⊥) (o : Outcome) → comes_to l x c ≡ Set o → (t : Bool) →
+          (is : List ℕ) (n : field l x at_feeder ≡ 0 → ⊥) (o : Outcome) → comes_to l x c ≡ Ok o → (t : Bool) →
           (feeding && same_card_row (card_row_at c x) (shown o)) ≡ t → Reaches l true (field l x at_feeder - 1) (put_card_row c x (shown o)) is →
           Reaches l feeding x c (x ∷ cond t [] is)
       by-test is n o e true q r =
@@ -74,10 +74,10 @@ module _ (l : List ℕ) (b : Feeds l) where
           (reach_from l true (path_of l (field l x at_feeder - 1)) (put_card_row c x (shown o)))) →
           Reaches l feeding x c
           (x ∷ onward feeding (card_row_at c x) s (λ k. reach_from l true (path_of l (field l x at_feeder - 1)) (put_card_row c x k)))
-      by_cases n (Set o) e r =
+      by_cases n (Ok o) e r =
           by-test (reach_from l true (path_of l (field l x at_feeder - 1)) (put_card_row c x (shown o))) n o e
           (feeding && same_card_row (card_row_at c x) (shown o)) refl (r o)
-      by_cases n (Unset why) e r = refused-there feeding x c why e
+      by_cases n (Err why) e r = refused-there feeding x c why e
 
   -- the front of the path of row x, and of what is reached, by what row x comes to
   starts :

@@ -1,4 +1,6 @@
 -- The rows that a change reaches are rows of the path, and no more.
+use Rattle.settle.specs.Outcomes.{Settled}
+use Rattle.std.proofs.Common.{Ok, Err}
 use mathlib.Core.Path.{◌≡◌, refl}
 use mathlib.Core.Bool.{Bool, true, false, cond, ◌&&◌, ◌||◌}
 use mathlib.Core.List.{List, [], ◌∷◌}
@@ -9,8 +11,6 @@ use lib.ListN.{length}
 use Rattle.fold.proofs.BoolLaws.{fails, not-both}
 use Rattle.layout.specs.declared.CardRow.{CardRow}
 use Rattle.layout.specs.Card.{card_row_at, put_card_row, same_card_row}
-use Rattle.settle.specs.declared.Settled.{Settled}
-use Rattle.settle.specs.declared.Settled.TheVariants.{Set, Unset}
 use Rattle.settle.specs.Settle.{shown}
 use Rattle.path.specs.Path.{has}
 use Rattle.path.specs.Reach.{comes_to, onward, reach_from}
@@ -27,8 +27,8 @@ reach-length l feeding (i ∷ is) c = by_cases (comes_to l i c) (λ k. reach-len
     by_cases :
         (s : Settled) → ((k : CardRow) → length (reach_from l true is (put_card_row c i k)) ≤ length is) →
         length (i ∷ onward feeding (card_row_at c i) s (λ k. reach_from l true is (put_card_row c i k))) ≤ length (i ∷ is)
-    by_cases (Set o) h = by-test (feeding && same_card_row (card_row_at c i) (shown o)) (reach_from l true is (put_card_row c i (shown o))) (h (shown o))
-    by_cases (Unset why) h = omega arith
+    by_cases (Ok o) h = by-test (feeding && same_card_row (card_row_at c i) (shown o)) (reach_from l true is (put_card_row c i (shown o))) (h (shown o))
+    by_cases (Err why) h = omega arith
 
 pub reach-inside : (l : List ℕ) (feeding : Bool) (is c : List ℕ) (j : ℕ) → has (reach_from l feeding is c) j ≡ true → has is j ≡ true
 unfolding reach_from onward has
@@ -46,10 +46,10 @@ reach-inside l feeding (i ∷ is) c j o = by_cases (comes_to l i c) (λ k. reach
     by_cases :
         (s : Settled) → ((k : CardRow) → has (reach_from l true is (put_card_row c i k)) j ≡ true → has is j ≡ true) →
         (eqb j i || has (onward feeding (card_row_at c i) s (λ k. reach_from l true is (put_card_row c i k))) j) ≡ true → (eqb j i || has is j) ≡ true
-    by_cases (Set o) f =
+    by_cases (Ok o) f =
         either (eqb j i) _ (has is j)
         (by-test (feeding && same_card_row (card_row_at c i) (shown o)) (reach_from l true is (put_card_row c i (shown o))) (f (shown o)))
-    by_cases (Unset why) f = either (eqb j i) false (has is j) (λ e. absurd (not-both e refl))
+    by_cases (Err why) f = either (eqb j i) false (has is j) (λ e. absurd (not-both e refl))
 
 pub reach-outside : (l : List ℕ) (feeding : Bool) (is c : List ℕ) (j : ℕ) → has is j ≡ false → has (reach_from l feeding is c) j ≡ false
 reach-outside l feeding is c j out = fails (has (reach_from l feeding is c) j) (λ o. not-both (reach-inside l feeding is c j o) out)

@@ -1,6 +1,7 @@
 -- What the functions of a path ask of their callers, and the shape of their promises. Definitions only.
-use Rattle.std.specs.Prelude.{◌≡◌, not, List, ℕ, ◌+◌, ◌*◌, ◌<◌, ◌≤◌, length}
-use Rattle.answers.specs.declared.Tested.TheVariants.{Passed}
+use Rattle.answers.specs.Answer.{done}
+use Rattle.answers.specs.declared.Refusal.{Refusal}
+use Rattle.std.specs.Prelude.{◌≡◌, not, List, ℕ, ◌+◌, ◌*◌, ◌<◌, ◌≤◌, length, Result, Ok, Err}
 use Rattle.feeding.specs.Fed.{Linked}
 use Rattle.layout.specs.Card.{card_row_at, column_bounds_to}
 use Rattle.layout.specs.Counts.{field_count, column_count, rows_most}
@@ -9,8 +10,6 @@ use Rattle.rows.specs.Tests.{rows_test}
 use Rattle.rowwise.specs.Ready.{PushReady}
 use Rattle.rowwise.specs.WorkOut.{Worked, finished, refused, work_out}
 use Rattle.rowwise.specs.Working.{Unworked, Working}
-use Rattle.path.specs.declared.HowFar.{HowFar}
-use Rattle.path.specs.declared.HowFar.TheVariants.{Rows, Refused}
 use Rattle.path.specs.Path.{on_path}
 use Rattle.path.specs.CardTest.{card_test}
 
@@ -42,28 +41,28 @@ pub record ReworkReady (l : List ℕ) (i : ℕ) (c : List ℕ) : Type 0 where
 -- the same, list and card tested
 pub record PathReady (l : List ℕ) (i : ℕ) (c : List ℕ) : Type 0 where
   pub rework : ReworkReady l i c
-  pub rows-tested : rows_test l ≡ Passed
-  pub card-tested : card_test l i c ≡ Passed
+  pub rows-tested : rows_test l ≡ done
+  pub card-tested : card_test l i c ≡ done
 
 -- the same, with sums that are all 0
 pub record RestReady (l : List ℕ) (i : ℕ) (c s : List ℕ) : Type 0 where
   pub is_row : i < rows l
-  pub card-tested : card_test l i c ≡ Passed
+  pub card-tested : card_test l i c ≡ done
   pub unworked : Unworked l c s
 
 -- how far the rows `is` went, worked out from the card c, and the card after it: refused, it is the card as it was
-unfoldable pub far_of : List ℕ → Worked → HowFar
-far_of is (finished c') = Rows (length is)
-far_of is (refused a) = Refused a
+unfoldable pub far_of : List ℕ → Worked → Result ℕ Refusal
+far_of is (finished c') = Ok (length is)
+far_of is (refused a) = Err a
 
 unfoldable pub card_of : List ℕ → Worked → List ℕ
 card_of c (finished c') = c'
 card_of c (refused a) = c
 
-pub record Reworked (is : List ℕ) (w : Worked) (c : List ℕ) (f : HowFar) (c' : List ℕ) : Type 0 where
+pub record Reworked (is : List ℕ) (w : Worked) (c : List ℕ) (f : Result ℕ Refusal) (c' : List ℕ) : Type 0 where
   pub far : f ≡ far_of is w
   pub card : c' ≡ card_of c w
 
 -- the rows `is` worked out on the card c
-abbrev pub WorkedOut : List ℕ → List ℕ → List ℕ → HowFar → List ℕ → Type 0
+abbrev pub WorkedOut : List ℕ → List ℕ → List ℕ → Result ℕ Refusal → List ℕ → Type 0
 WorkedOut l is c f c' = Reworked is (work_out l is c) c f c'

@@ -1,5 +1,7 @@
 -- The tests 2 to 5 exactly: each ends as it does where the list is so, at the first row and field, and no other way.
-use Rattle.std.proofs.Common.{Option, Some, None}
+use Rattle.answers.specs.declared.Refusal.TheVariants.{Field}
+use Rattle.answers.specs.Answer.{Answer}
+use Rattle.std.proofs.Common.{Option, Some, None, Err}
 use mathlib.Core.Path.{◌≡◌, refl, sym, ap, ◌∙◌, subst}
 use mathlib.Core.Bool.{Bool, true, false, cond}
 use mathlib.Core.Logic.{◌⊎◌, ◌↔◌, inl, inr, ⊎_elim}
@@ -9,9 +11,6 @@ use native.Mathlib.Omega.{arith}
 use lib.Dec.{leb, eqb}
 use lib.ListN.{length}
 use borrow.Author.Tests.{eqb-true, eqb-false, leb-true, leb-false, not-false, not-true, ne_eqb}
-use Rattle.answers.specs.declared.Answer.TheVariants.{Field}
-use Rattle.answers.specs.declared.Tested.{Tested}
-use Rattle.answers.specs.declared.Tested.TheVariants.{Refused}
 use Rattle.fold.specs.First.{first}
 use Rattle.fold.proofs.BoolLaws.{passes-or-fails, fails, not-both, lt-or-le}
 use Rattle.fold.proofs.FirstLaws.{first-at, first-is, first-none, first-nothing}
@@ -32,7 +31,7 @@ module _ (l : List ℕ) (room : ℕ) where
   right-size : length l % field_count ≡ 0 → field_count ≤ length l → length l ≤ list_most → RightSize l
   right-size a b c = record { count = rows l; whole-rows = omega arith; some = omega arith; most = omega arith }
 
-  pub get-size : {t : Tested} → SizeGets l room t → size_test (length l) room ≡ t
+  pub get-size : {t : Answer} → SizeGets l room t → size_test (length l) room ≡ t
   get-size (SizeGets.passed s r) =
       let w = s.whole-rows in
       let a = s.some in
@@ -70,7 +69,7 @@ module _ (l : List ℕ) (room : ℕ) where
       (λ n. given (SizeGets.COUNT n))
       sized
     where
-      given : {t : Tested} → SizeGets l room t → SizeGets l room (size_test (length l) room)
+      given : {t : Answer} → SizeGets l room t → SizeGets l room (size_test (length l) room)
       given g = subst (SizeGets l room) (sym (get-size g)) g
 
       sized : RightSize l ⊎ (RightSize l → ⊥)
@@ -89,7 +88,7 @@ module _ (l : List ℕ) (room : ℕ) where
           (λ (e : eqb (length l % field_count) 0 ≡ false). inr (λ s. eqb-false (length l % field_count) 0 e (omega (arith, s.whole-rows))))
           (passes-or-fails (eqb (length l % field_count) 0))
 
-  pub size-exactly : (t : Tested) → (size_test (length l) room ≡ t) ↔ SizeGets l room t
+  pub size-exactly : (t : Answer) → (size_test (length l) room ≡ t) ↔ SizeGets l room t
   size-exactly t = (λ e. subst (SizeGets l room) e size-gets, get-size)
 
 pub size-rows : (l : List ℕ) → RightSize l → rows l ≤ rows_most
@@ -158,7 +157,7 @@ module _ (l : List ℕ) (few : rows l ≤ rows_most) where
     unfolding row_fault
     fault-of n = fault-named (first (field_wrong l i) 0 field_count) refl n
 
-  pub get_rows : {t : Tested} → RowsGet l t → rows_test l ≡ t
+  pub get_rows : {t : Answer} → RowsGet l t → rows_test l ≡ t
   unfolding rows_test tree_test field_answer tree_answer
   get_rows (RowsGet.passed a b) = in-range-passes l few a b
   get_rows (RowsGet.FIELD i k f) =
@@ -167,7 +166,7 @@ module _ (l : List ℕ) (few : rows l ≤ rows_most) where
       (first-is (row_at_fault l) (rows l) 0 i (omega arith) (omega (arith, f.inside))
       (rw (q, ne_eqb (k + 1) 0 (λ z. omega arith)))
       (λ j a b. rw (row-no-fault l j (omega (arith, f.inside)) (f.rows_before j b))))
-      (ap (λ (x : ℕ). Refused (Field (i + 1) x)) q)
+      (ap (λ (x : ℕ). Err (Field (i + 1) x)) q)
   get_rows (RowsGet.TREE i a f) =
       rw (
         in-range-none l few a,
@@ -179,7 +178,7 @@ module _ (l : List ℕ) (few : rows l ≤ rows_most) where
   pub rows_get : RowsGet l (rows_test l)
   rows_get = by_field (first (row_at_fault l) 0 (rows l)) refl
     where
-      given : {t : Tested} → RowsGet l t → RowsGet l (rows_test l)
+      given : {t : Answer} → RowsGet l t → RowsGet l (rows_test l)
       given g = subst (RowsGet l) (sym (get_rows g)) g
 
       by-tree : InRange l → (f : Option ℕ) → first (fed_wrongly l) 0 (rows l) ≡ f → RowsGet l (rows_test l)
@@ -209,5 +208,5 @@ module _ (l : List ℕ) (few : rows l ≤ rows_most) where
           (eqb-false (row_fault l i) 0 (not-true _ f.passes)) in
           given (RowsGet.FIELD i n.0 n.1)
 
-  pub rows-exactly : (t : Tested) → (rows_test l ≡ t) ↔ RowsGet l t
+  pub rows-exactly : (t : Answer) → (rows_test l ≡ t) ↔ RowsGet l t
   rows-exactly t = (λ e. subst (RowsGet l) e rows_get, get_rows)

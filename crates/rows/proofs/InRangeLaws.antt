@@ -1,4 +1,5 @@
 -- The tests of a field, a row and its feeding pass exactly what is in range and feeds as section 2 says; what the rows of such a list are.
+use Rattle.answers.specs.Answer.{Answer, done}
 use Rattle.std.proofs.Common.{Option, Some, None}
 use mathlib.Core.Path.{◌≡◌, refl, ap, ap₂}
 use mathlib.Core.Bool.{Bool, true, false, not, cond, ◌&&◌, ◌||◌}
@@ -12,8 +13,6 @@ use Rattle.layout.specs.Counts.{field_count, rows_most}
 use Rattle.fold.specs.First.{first}
 use Rattle.fold.proofs.BoolLaws.{and_left, and_right, and_both, implies, implied, passes-or-fails, lt-or-le, zero-not-one}
 use Rattle.fold.proofs.FirstLaws.{first-none, first-nothing}
-use Rattle.answers.specs.declared.Tested.{Tested}
-use Rattle.answers.specs.declared.Tested.TheVariants.{Passed}
 use Rattle.layout.specs.Fields.{at_low, at_high, at_primary, at_secondary, in_bounds}
 use Rattle.layout.specs.List.{rows, field, row_at, bounds_at}
 use Rattle.sides.specs.Sides.{RatingsFit}
@@ -199,28 +198,28 @@ module _ (l : List ℕ) (i : ℕ) (h : i < rows l) where
 -- ---- the two tests over all rows
 
 module _ (l : List ℕ) where
-  tree-passed : (f : Option ℕ) → tree_answer f ≡ Passed → f ≡ None
+  tree-passed : (f : Option ℕ) → tree_answer f ≡ done → f ≡ None
   unfolding tree_answer
   tree-passed (Some i) e = absurd (zero-not-one cc)
   tree-passed None e = refl
 
-  fields-passed : (f : Option ℕ) (t : Tested) → field_answer l t f ≡ Passed → f ≡ None
+  fields-passed : (f : Option ℕ) (t : Answer) → field_answer l t f ≡ done → f ≡ None
   unfolding field_answer
   fields-passed (Some i) t e = absurd (zero-not-one cc)
   fields-passed None t e = refl
 
-  then-passed : (f : Option ℕ) (t : Tested) → field_answer l t f ≡ Passed → t ≡ Passed
+  then-passed : (f : Option ℕ) (t : Answer) → field_answer l t f ≡ done → t ≡ done
   unfolding field_answer
   then-passed (Some i) t e = absurd (zero-not-one cc)
   then-passed None t e = e
 
-  pub passed-in-range : rows_test l ≡ Passed → InRange l
+  pub passed-in-range : rows_test l ≡ done → InRange l
   unfolding rows_test
   passed-in-range e i h =
       no-fault-row l i
       (eqb-true _ _ (not-false _ (first-nothing (row_at_fault l) (rows l) 0 (fields-passed _ _ e) i (omega arith) (omega arith))))
 
-  pub passed-feeds : rows_test l ≡ Passed → Feeds l
+  pub passed-feeds : rows_test l ≡ done → Feeds l
   unfolding rows_test tree_test
   passed-feeds e i h =
       right-feeds l i h
@@ -234,7 +233,7 @@ module _ (l : List ℕ) where
   pub feeds-none : Feeds l → first (fed_wrongly l) 0 (rows l) ≡ None
   feeds-none b = first-none (fed_wrongly l) (rows l) 0 (λ i x y. rw (feeds-right l i (omega arith) (b i (omega arith))))
 
-  pub in-range-passes : rows l ≤ rows_most → InRange l → Feeds l → rows_test l ≡ Passed
+  pub in-range-passes : rows l ≤ rows_most → InRange l → Feeds l → rows_test l ≡ done
   unfolding rows_test tree_test field_answer tree_answer
   in-range-passes few a b = rw (in-range-none few a, feeds-none b)
 

@@ -1,5 +1,7 @@
 -- Laws of the tests 2 to 5, one for each way that a test ends.
-use Rattle.std.proofs.Common.{Option, Some, None}
+use Rattle.answers.specs.declared.Refusal.TheVariants.{Count, Room, Field, Tree}
+use Rattle.answers.specs.Answer.{Answer, done}
+use Rattle.std.proofs.Common.{Option, Some, None, Err}
 use mathlib.Core.Path.{◌≡◌, refl, sym, ◌∙◌}
 use mathlib.Core.Bool.{Bool, true, false, not, cond, ◌&&◌}
 use mathlib.Core.List.{List}
@@ -12,10 +14,6 @@ use mathlib.Core.Logic.{⊎_elim}
 use native.Mathlib.Omega.{arith}
 use borrow.Author.Tests.{eqb-true, leb-true, le-leb, lt-leb, lt-ltb, le-ltb, eq-eqb, ne_eqb}
 use Rattle.fold.specs.First.{first}
-use Rattle.answers.specs.declared.Answer.{Answer}
-use Rattle.answers.specs.declared.Answer.TheVariants.{Count, Room, Field, Tree}
-use Rattle.answers.specs.declared.Tested.{Tested}
-use Rattle.answers.specs.declared.Tested.TheVariants.{Passed, Refused}
 use Rattle.layout.specs.Fields.{at_feeder, at_kind, at_low, at_high, at_primary, at_secondary}
 use Rattle.layout.specs.List.{rows, field}
 use Rattle.rows.specs.Tests.{field_wrong, high_right, order_fault, fault_after, row_fault, row_at_fault}
@@ -87,36 +85,36 @@ module _ (l : List ℕ) where
   pub row-right : (i f : ℕ) → f ≡ row_fault l i → f ≡ 0 → row_at_fault l i ≡ false
   row-right i f q h = rw (← q, eq-eqb f 0 h)
 
-  pub fields-found : (i f : ℕ) → f ≡ row_fault l i → first (row_at_fault l) 0 (rows l) ≡ Some i → Refused (Field (i + 1) f) ≡ fields_test l
+  pub fields-found : (i f : ℕ) → f ≡ row_fault l i → first (row_at_fault l) 0 (rows l) ≡ Some i → Err (Field (i + 1) f) ≡ fields_test l
   unfolding fields_test field_answer
   fields-found i f q e = rw (e, q)
 
-  pub fields-none : first (row_at_fault l) 0 (rows l) ≡ None → Passed ≡ fields_test l
+  pub fields-none : first (row_at_fault l) 0 (rows l) ≡ None → done ≡ fields_test l
   unfolding fields_test field_answer
   fields-none e = rw e
 
   -- a field at fault is named before the feeding is looked at
-  pub rows-refused : (t : Tested) (a : Answer) → t ≡ fields_test l → t ≡ Refused a → Refused a ≡ rows_test l
+  pub rows-refused : (t : Answer) (a : Answer) → t ≡ fields_test l → t ≡ Err a → Err a ≡ rows_test l
   unfolding rows_test fields_test field_answer
   rows-refused t a q e = by_cases (first (row_at_fault l) 0 (rows l)) (sym q ∙ e)
     where
-      by_cases : (f : Option ℕ) → field_answer l Passed f ≡ Refused a → Refused a ≡ field_answer l (tree_test l) f
+      by_cases : (f : Option ℕ) → field_answer l done f ≡ Err a → Err a ≡ field_answer l (tree_test l) f
       by_cases (Some i) g = sym g
       by_cases None g = absurd (zero-not-one cc)
 
-  pub rows-tree : (t u : Tested) → t ≡ fields_test l → t ≡ Passed → u ≡ tree_test l → u ≡ rows_test l
+  pub rows-tree : (t u : Answer) → t ≡ fields_test l → t ≡ done → u ≡ tree_test l → u ≡ rows_test l
   unfolding rows_test fields_test field_answer
   rows-tree t u q e v = by_cases (first (row_at_fault l) 0 (rows l)) (sym q ∙ e)
     where
-      by_cases : (f : Option ℕ) → field_answer l Passed f ≡ Passed → u ≡ field_answer l (tree_test l) f
+      by_cases : (f : Option ℕ) → field_answer l done f ≡ done → u ≡ field_answer l (tree_test l) f
       by_cases (Some i) g = absurd (zero-not-one cc)
       by_cases None g = v
 
-  pub tree-found : (i : ℕ) → first (fed_wrongly l) 0 (rows l) ≡ Some i → Refused (Tree (i + 1)) ≡ tree_test l
+  pub tree-found : (i : ℕ) → first (fed_wrongly l) 0 (rows l) ≡ Some i → Err (Tree (i + 1)) ≡ tree_test l
   unfolding tree_test tree_answer
   tree-found i e = rw e
 
-  pub tree-none : first (fed_wrongly l) 0 (rows l) ≡ None → Passed ≡ tree_test l
+  pub tree-none : first (fed_wrongly l) 0 (rows l) ≡ None → done ≡ tree_test l
   unfolding tree_test tree_answer
   tree-none e = rw e
 
@@ -138,25 +136,25 @@ module _ (l : List ℕ) (i f : ℕ) (e : f ≡ field l i at_feeder) where
   feeds-by k q n g h = rw (ne_eqb (i + 1) (rows l) n, ← e, lt-ltb (i + 1) f g, le-leb f (rows l) h, q)
 
 module _ (len room : ℕ) where
-  pub size-ragged : (len % field_count ≡ 0 → ⊥) → Refused Count ≡ size_test len room
+  pub size-ragged : (len % field_count ≡ 0 → ⊥) → Err Count ≡ size_test len room
   unfolding size_test
   size-ragged h = rw (ne_eqb (len % field_count) 0 h)
 
-  pub size_none : len % field_count ≡ 0 → len < field_count → Refused Count ≡ size_test len room
+  pub size_none : len % field_count ≡ 0 → len < field_count → Err Count ≡ size_test len room
   unfolding size_test
   size_none e h = rw (eq-eqb (len % field_count) 0 e, lt-leb field_count len h)
 
-  pub size-over : len % field_count ≡ 0 → field_count ≤ len → list_most < len → Refused Count ≡ size_test len room
+  pub size-over : len % field_count ≡ 0 → field_count ≤ len → list_most < len → Err Count ≡ size_test len room
   unfolding size_test
   size-over e g h = rw (eq-eqb (len % field_count) 0 e, le-leb field_count len g, lt-leb len list_most h)
 
   pub size-short :
-      len % field_count ≡ 0 → field_count ≤ len → len ≤ list_most → room < column_count * (len / field_count) → Refused Room ≡ size_test len room
+      len % field_count ≡ 0 → field_count ≤ len → len ≤ list_most → room < column_count * (len / field_count) → Err Room ≡ size_test len room
   unfolding size_test
   size-short e g h k = rw (eq-eqb (len % field_count) 0 e, le-leb field_count len g, le-leb len list_most h, lt-leb (column_count * (len / field_count)) room k)
 
   pub size-right :
-      len % field_count ≡ 0 → field_count ≤ len → len ≤ list_most → column_count * (len / field_count) ≤ room → Passed ≡ size_test len room
+      len % field_count ≡ 0 → field_count ≤ len → len ≤ list_most → column_count * (len / field_count) ≤ room → done ≡ size_test len room
   unfolding size_test
   size-right e g h k = rw (eq-eqb (len % field_count) 0 e, le-leb field_count len g, le-leb len list_most h, le-leb (column_count * (len / field_count)) room k)
 
@@ -167,14 +165,14 @@ pub record SizeRight (len room : ℕ) : Type 0 where
   pub most-rows : len ≤ list_most
   pub card-room : column_count * (len / field_count) ≤ room
 
-pub size-passed : (len room : ℕ) → size_test len room ≡ Passed → SizeRight len room
+pub size-passed : (len room : ℕ) → size_test len room ≡ done → SizeRight len room
 unfolding size_test
 size-passed len room e =
     by_cases (eqb (len % field_count) 0 && (leb field_count len && leb len list_most)) (leb (column_count * (len / field_count)) room) refl refl e
   where
     by_cases :
         (a b : Bool) → (eqb (len % field_count) 0 && (leb field_count len && leb len list_most)) ≡ a → leb (column_count * (len / field_count)) room ≡ b →
-        cond a (cond b Passed (Refused Room)) (Refused Count) ≡ Passed → SizeRight len room
+        cond a (cond b done (Err Room)) (Err Count) ≡ done → SizeRight len room
     by_cases true true p q e =
         let r = and_right (eqb (len % field_count) 0) (leb field_count len && leb len list_most) p in
         record {

@@ -1,10 +1,9 @@
 -- [01 §2, §4], [02 §1] A list of the right size, in range, its rows feeding as section 2 says, by inequalities; and where it is not, the first
 -- row and field that is named. The tests of specs/Tests.antt are proved to say exactly this. Rows and fields are counted from 0.
 -- Definitions only.
-use Rattle.std.specs.Prelude.{◌≡◌, ◌⊎◌, List, ℕ, ◌+◌, ◌-◌, ◌*◌, ◌≤◌, ◌<◌, length}
-use Rattle.answers.specs.declared.Answer.TheVariants.{Count, Room, Field, Tree}
-use Rattle.answers.specs.declared.Tested.{Tested}
-use Rattle.answers.specs.declared.Tested.TheVariants.{Passed, Refused}
+use Rattle.answers.specs.declared.Refusal.TheVariants.{Count, Room, Field, Tree}
+use Rattle.answers.specs.Answer.{Answer, done}
+use Rattle.std.specs.Prelude.{◌≡◌, ◌⊎◌, List, ℕ, ◌+◌, ◌-◌, ◌*◌, ◌≤◌, ◌<◌, length, Err}
 use Rattle.layout.specs.Counts.{field_count, column_count, rows_most}
 use Rattle.layout.specs.Fields.{at_primary, at_secondary}
 use Rattle.layout.specs.List.{rows, field, row_at, bounds_at}
@@ -81,12 +80,12 @@ pub record FirstMisfed (l : List ℕ) (i : ℕ) : Type 0 where
   pub misfed : FedRightly l i → ⊥
 
 -- what the tests 2 and 3 say of a list, and on a list of the right size 4 and 5
-pub data SizeGets (l : List ℕ) (room : ℕ) : Tested → Type 0 where
-  passed : RightSize l → HasRoom l room → SizeGets l room Passed
-  COUNT : (RightSize l → ⊥) → SizeGets l room (Refused Count)
-  ROOM : RightSize l → (HasRoom l room → ⊥) → SizeGets l room (Refused Room)
+pub data SizeGets (l : List ℕ) (room : ℕ) : Answer → Type 0 where
+  passed : RightSize l → HasRoom l room → SizeGets l room done
+  COUNT : (RightSize l → ⊥) → SizeGets l room (Err Count)
+  ROOM : RightSize l → (HasRoom l room → ⊥) → SizeGets l room (Err Room)
 
-pub data RowsGet (l : List ℕ) : Tested → Type 0 where
-  passed : InRange l → Feeds l → RowsGet l Passed
-  FIELD : (i k : ℕ) → FirstOutOfRange l i k → RowsGet l (Refused (Field (i + 1) (k + 1)))
-  TREE : (i : ℕ) → InRange l → FirstMisfed l i → RowsGet l (Refused (Tree (i + 1)))
+pub data RowsGet (l : List ℕ) : Answer → Type 0 where
+  passed : InRange l → Feeds l → RowsGet l done
+  FIELD : (i k : ℕ) → FirstOutOfRange l i k → RowsGet l (Err (Field (i + 1) (k + 1)))
+  TREE : (i : ℕ) → InRange l → FirstMisfed l i → RowsGet l (Err (Tree (i + 1)))

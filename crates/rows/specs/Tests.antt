@@ -1,11 +1,10 @@
 -- [01 §2, §4], [02 §1] When a list is in range and feeds as section 2 says, and which refusal it gets otherwise.
 -- Rows and fields are counted from 0; places in answers from 1. Definitions only.
-use Rattle.std.specs.Prelude.{List, Bool, not, cond, ◌&&◌, ◌||◌, ℕ, ◌+◌, ◌-◌, ◌*◌, ◌/◌, ◌%◌, leb, ltb, eqb, Option, Some, None}
+use Rattle.answers.specs.declared.Refusal.TheVariants.{Count, Room, Field, Tree}
+use Rattle.answers.specs.Answer.{Answer, done}
+use Rattle.std.specs.Prelude.{List, Bool, not, cond, ◌&&◌, ◌||◌, ℕ, ◌+◌, ◌-◌, ◌*◌, ◌/◌, ◌%◌, leb, ltb, eqb, Option, Some, None, Err}
 use Rattle.layout.specs.Counts.{field_count, column_count, list_most}
 use Rattle.fold.specs.First.{first}
-use Rattle.answers.specs.declared.Answer.TheVariants.{Count, Room, Field, Tree}
-use Rattle.answers.specs.declared.Tested.{Tested}
-use Rattle.answers.specs.declared.Tested.TheVariants.{Passed, Refused}
 use Rattle.layout.specs.Fields.{at_feeder, at_kind, at_low, at_high, at_primary, at_secondary, in_bounds}
 use Rattle.layout.specs.List.{rows, field, bounds_at}
 
@@ -49,33 +48,33 @@ feeds_right l i =
     (ltb (i + 1) (field l i at_feeder) && (leb (field l i at_feeder) (rows l) && not (eqb (field l (field l i at_feeder - 1) at_kind) 3)))
 
 -- 2 COUNT, then 3 ROOM: `room` is how many numbers the lent card holds
-unfoldable pub size_test : ℕ → ℕ → Tested
+unfoldable pub size_test : ℕ → ℕ → Answer
 size_test len room =
     cond (eqb (len % field_count) 0 && (leb field_count len && leb len (list_most)))
-    (cond (leb (column_count * (len / field_count)) room) Passed (Refused Room))
-    (Refused Count)
+    (cond (leb (column_count * (len / field_count)) room) done (Err Room))
+    (Err Count)
 
 -- 5 TREE over all rows ascending; the place is the fed row
 abbrev pub fed_wrongly : List ℕ → ℕ → Bool
 fed_wrongly l i = not (feeds_right l i)
 
-unfoldable pub tree_answer : Option ℕ → Tested
-tree_answer (Some i) = Refused (Tree (i + 1))
-tree_answer None = Passed
+unfoldable pub tree_answer : Option ℕ → Answer
+tree_answer (Some i) = Err (Tree (i + 1))
+tree_answer None = done
 
-unfoldable pub tree_test : List ℕ → Tested
+unfoldable pub tree_test : List ℕ → Answer
 tree_test l = tree_answer (first (fed_wrongly l) 0 (rows l))
 
 -- 4 FIELD over all rows ascending, then 5 over all rows
 abbrev pub row_at_fault : List ℕ → ℕ → Bool
 row_at_fault l i = not (eqb (row_fault l i) 0)
 
-unfoldable pub field_answer : List ℕ → Tested → Option ℕ → Tested
-field_answer l next (Some i) = Refused (Field (i + 1) (row_fault l i))
+unfoldable pub field_answer : List ℕ → Answer → Option ℕ → Answer
+field_answer l next (Some i) = Err (Field (i + 1) (row_fault l i))
 field_answer l next None = next
 
-unfoldable pub fields_test : List ℕ → Tested
-fields_test l = field_answer l Passed (first (row_at_fault l) 0 (rows l))
+unfoldable pub fields_test : List ℕ → Answer
+fields_test l = field_answer l done (first (row_at_fault l) 0 (rows l))
 
-unfoldable pub rows_test : List ℕ → Tested
+unfoldable pub rows_test : List ℕ → Answer
 rows_test l = field_answer l (tree_test l) (first (row_at_fault l) 0 (rows l))

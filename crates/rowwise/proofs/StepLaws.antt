@@ -1,4 +1,8 @@
 -- One row's step, one law for each way that it ends.
+use Rattle.answers.specs.Answer.{done}
+use Rattle.settle.specs.Outcomes.{Settled}
+use Rattle.answers.specs.declared.Refusal.TheVariants.{Unsettled}
+use Rattle.std.proofs.Common.{Ok, Err}
 use mathlib.Core.Path.{◌≡◌, refl, sym, ap, ap₂, ◌∙◌}
 use mathlib.Core.Bool.{Bool, true, false, cond}
 use mathlib.Core.List.{List}
@@ -6,9 +10,7 @@ use Prim.Native.Nat.{ℕ, ◌+◌, ◌-◌}
 use lib.Dec.{eqb}
 use lib.ListN.{length}
 use borrow.Author.Tests.{eq-eqb, ne_eqb}
-use Rattle.answers.specs.declared.Answer.TheVariants.{Unsettled}
 use Rattle.answers.specs.declared.Reason.{Reason}
-use Rattle.answers.specs.declared.Tested.TheVariants.{Passed, Refused}
 use Rattle.layout.specs.declared.CardRow.{CardRow}
 use Rattle.layout.specs.declared.Row.{Row}
 use Rattle.layout.specs.Card.{card_row_at, put_card_row}
@@ -16,8 +18,6 @@ use Rattle.layout.specs.List.{row_at}
 use Rattle.layout.specs.View.{view_of}
 use Rattle.settle.specs.declared.Fed.{Fed}
 use Rattle.settle.specs.declared.Outcome.{Outcome}
-use Rattle.settle.specs.declared.Settled.{Settled}
-use Rattle.settle.specs.declared.Settled.TheVariants.{Set, Unset}
 use Rattle.settle.specs.Fed.{asked, settled_by}
 use Rattle.settle.specs.Settle.{shown}
 use Rattle.rowwise.specs.Ready.{Stepped}
@@ -50,17 +50,17 @@ module _ (l : List ℕ) (i : ℕ) (c s : List ℕ) (r : Row) (f : Fed) (er : r �
   settles o e = ap (step_by l i c s) (sym (e ∙ ap₂ (settled_by (view_of l) (card_row_at c) i) er ef))
 
   pub step-unsettled :
-      (why : Reason) → Unset why ≡ settled_by (view_of l) (card_row_at c) i r f → Stepped (step l i c s) (Refused (Unsettled (i + 1) why)) c s
+      (why : Reason) → Err why ≡ settled_by (view_of l) (card_row_at c) i r f → Stepped (step l i c s) (Err (Unsettled (i + 1) why)) c s
   unfolding step_by
-  step-unsettled why e = rw (settles (Unset why) e) (record { answer = refl; card = refl; sums = refl })
+  step-unsettled why e = rw (settles (Err why) e) (record { answer = refl; card = refl; sums = refl })
 
   pub step_set :
-      (o : Outcome) (k : CardRow) (c' s' : List ℕ) → Set o ≡ settled_by (view_of l) (card_row_at c) i r f → k ≡ shown o → c' ≡ put_card_row c i k → s' ≡
+      (o : Outcome) (k : CardRow) (c' s' : List ℕ) → Ok o ≡ settled_by (view_of l) (card_row_at c) i r f → k ≡ shown o → c' ≡ put_card_row c i k → s' ≡
       pushed r k s →
-      Stepped (step l i c s) Passed c' s'
+      Stepped (step l i c s) done c' s'
   unfolding step_by
   step_set o k c' s' e ek ec es =
-      rw (settles (Set o) e)
+      rw (settles (Ok o) e)
       (record {
         answer = refl;
         card = ec ∙ ap (put_card_row c i) ek;

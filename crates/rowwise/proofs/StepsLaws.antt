@@ -1,5 +1,7 @@
 -- Rows worked out one after the other: a refusal stays what it is, and one row is its own step. The loop over them has worked out those below
 -- row i, none of which was refused.
+use Rattle.answers.specs.Answer.{Answer, done}
+use Rattle.std.proofs.Common.{Err}
 use mathlib.Core.Path.{◌≡◌, refl, sym, ap, ◌∙◌}
 use mathlib.Core.List.{List}
 use Prim.Native.Nat.{ℕ, zero, suc, ◌+◌, ◌-◌, ◌≤◌, ◌<◌}
@@ -7,34 +9,31 @@ use native.Mathlib.Nat.{add-zero}
 use native.Mathlib.Numerals.{add-one}
 use native.Mathlib.Omega.{arith}
 use lib.ListN.{length}
-use Rattle.answers.specs.declared.Answer.{Answer}
-use Rattle.answers.specs.declared.Tested.{Tested}
-use Rattle.answers.specs.declared.Tested.TheVariants.{Passed, Refused}
 use Rattle.rowwise.specs.Ready.{WorkReady, RowsReady, Stepped}
 use Rattle.rowwise.specs.Sums.{Step, step, on_step, steps}
 
 module _ (l : List ℕ) (i : ℕ) (c s : List ℕ) where
   -- one row more, after rows that passed, and after a refusal
   pub steps_next :
-      (n : ℕ) → (steps l i n c s).tested ≡ Passed →
+      (n : ℕ) → (steps l i n c s).tested ≡ done →
       steps l i (n + 1) c s ≡ step l (i + n) (steps l i n c s).card (steps l i n c s).sums
   unfolding steps on_step
   steps_next n e = rw (add-one n, e)
 
-  pub steps-over : (n : ℕ) (a : Answer) → (steps l i n c s).tested ≡ Refused a → steps l i (n + 1) c s ≡ steps l i n c s
+  pub steps-over : (n : ℕ) (a : Answer) → (steps l i n c s).tested ≡ Err a → steps l i (n + 1) c s ≡ steps l i n c s
   unfolding steps on_step
   steps-over n a e =
       rw (add-one n)
-      (ap (λ (t : Tested). on_step t (steps l i n c s) (step l (i + n) (steps l i n c s).card (steps l i n c s).sums)) e)
+      (ap (λ (t : Answer). on_step t (steps l i n c s) (step l (i + n) (steps l i n c s).card (steps l i n c s).sums)) e)
 
-  refused-so-many : (n d : ℕ) (a : Answer) → (steps l i n c s).tested ≡ Refused a → steps l i (n + d) c s ≡ steps l i n c s
+  refused-so-many : (n d : ℕ) (a : Answer) → (steps l i n c s).tested ≡ Err a → steps l i (n + d) c s ≡ steps l i n c s
   refused-so-many n zero a e = rw add-zero
   refused-so-many n (suc d) a e =
       let same = refused-so-many n d a e in
       let q : n + suc d ≡ n + d + 1 = omega arith in
       rw q (steps-over (n + d) a (ap (λ (z : Step). z.tested) same ∙ e) ∙ same)
 
-  pub steps-refused : (n m : ℕ) (a : Answer) → n ≤ m → (steps l i n c s).tested ≡ Refused a → steps l i m c s ≡ steps l i n c s
+  pub steps-refused : (n m : ℕ) (a : Answer) → n ≤ m → (steps l i n c s).tested ≡ Err a → steps l i m c s ≡ steps l i n c s
   steps-refused n m a h e = let q : m ≡ n + (m - n) = omega arith in rw q (refused-so-many n (m - n) a e)
 
   pub one-row : steps l i (i + 1 - i) c s ≡ step l i c s
@@ -48,7 +47,7 @@ module _ (l : List ℕ) (i : ℕ) (c s : List ℕ) where
 pub record Stepping (l : List ℕ) (from to : ℕ) (c₀ s₀ c s : List ℕ) (i : ℕ) : Type 0 where
   pub begun : from ≤ i
   pub within : i - from ≤ to - from
-  pub passed : (steps l from (i - from) c₀ s₀).tested ≡ Passed
+  pub passed : (steps l from (i - from) c₀ s₀).tested ≡ done
   pub card : c ≡ (steps l from (i - from) c₀ s₀).card
   pub sums : s ≡ (steps l from (i - from) c₀ s₀).sums
   pub card-length : length c ≡ length c₀
@@ -86,7 +85,7 @@ module _ (l : List ℕ) (from to : ℕ) (c₀ s₀ c s : List ℕ) (i : ℕ) (v 
   own-step = rw (v.card, v.sums) (rw here at (steps_next l from c₀ s₀ done v.passed))
 
   pub stepping-next :
-      (t : Tested) (c' s' : List ℕ) → i < to → length c' ≡ length c → length s' ≡ length s → t ≡ Passed →
+      (t : Answer) (c' s' : List ℕ) → i < to → length c' ≡ length c → length s' ≡ length s → t ≡ done →
       Stepped (step l i c s) t c' s' → Stepping l from to c₀ s₀ c' s' (i + 1)
   stepping-next t c' s' h ec es p z =
       let e : i + 1 - from ≡ done + 1 = omega (arith, v.begun) in
@@ -101,13 +100,13 @@ module _ (l : List ℕ) (from to : ℕ) (c₀ s₀ c s : List ℕ) (i : ℕ) (v 
       }
 
   pub stepping-refused :
-      (t : Tested) (a : Answer) (c' s' : List ℕ) → i < to → t ≡ Refused a → Stepped (step l i c s) t c' s' →
-      Stepped (steps l from (to - from) c₀ s₀) (Refused a) c' s'
+      (t : Answer) (a : Answer) (c' s' : List ℕ) → i < to → t ≡ Err a → Stepped (step l i c s) t c' s' →
+      Stepped (steps l from (to - from) c₀ s₀) (Err a) c' s'
   stepping-refused t a c' s' h e z =
       let over = steps-refused l from c₀ s₀ (done + 1) (to - from) a (omega (arith, v.begun)) (rw own-step (sym z.answer ∙ e)) in
       rw (over, own-step) (record { answer = sym e ∙ z.answer; card = z.card; sums = z.sums })
 
-  pub stepping-end : to ≤ i → Stepped (steps l from (to - from) c₀ s₀) Passed c s
+  pub stepping-end : to ≤ i → Stepped (steps l from (to - from) c₀ s₀) done c s
   stepping-end h =
       let e : to - from ≡ done = omega (arith, v.within) in
       rw e (record { answer = sym v.passed; card = v.card; sums = v.sums })

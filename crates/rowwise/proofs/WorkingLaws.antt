@@ -1,5 +1,6 @@
 -- While rows are worked out, the sums hold for each row that still matters what its fed rows that are done ask of it. So a row
 -- whose fed rows are all done is settled by the sums as section 3 says, and its step keeps the sums true.
+use Rattle.std.proofs.Common.{Ok}
 use mathlib.Core.Path.{◌≡◌, refl, sym, ap, ◌∙◌, subst}
 use mathlib.Core.Bool.{Bool, true, false, cond, ◌&&◌, ◌||◌}
 use mathlib.Core.Logic.{⊎_elim}
@@ -21,7 +22,6 @@ use Rattle.rows.proofs.InRangeLaws.{feeder-above, feeder-of-last}
 use Rattle.feeding.specs.Fed.{Linked}
 use Rattle.settle.specs.declared.Fed.{Fed}
 use Rattle.settle.specs.declared.Outcome.{Outcome}
-use Rattle.settle.specs.declared.Settled.TheVariants.{Set}
 use Rattle.settle.specs.Conditions.{primary_of, fed, load_of}
 use Rattle.settle.specs.Fed.{reach, excess, shortfall, asked, settled_by, FedBounded, CardBounded}
 use Rattle.settle.specs.Settle.{shown, settled}
@@ -118,7 +118,7 @@ module _ (l : List ℕ) (done matters : ℕ → Bool) (c s : List ℕ) (w : Work
       (max_to-same _ _ (rows l) (λ j b. counted-all (done j) (fed (view_of l) i j) (shortfall (row_at l j)) (all j b)))) ∙
       settled-by (view_of l) (λ j b. (w.in-range j b).bounded) (card_row_at c) i h
 
-  pub settled-to : (i : ℕ) → i < rows l → (o : Outcome) → Set o ≡ settled_at l i c s → CardBounded (row_at l i) (shown o)
+  pub settled-to : (i : ℕ) → i < rows l → (o : Outcome) → Ok o ≡ settled_at l i c s → CardBounded (row_at l i) (shown o)
   settled-to i h o set = set-bounded _ _ _ _ _ o (w.in-range i h).bounded set
 
   -- row i is written into the card as k, and done from then on; what mattered no longer may

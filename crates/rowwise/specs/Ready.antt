@@ -1,7 +1,6 @@
 -- What one row's working out asks of its callers, and its promise. Definitions only.
+use Rattle.answers.specs.Answer.{Answer, done}
 use Rattle.std.specs.Prelude.{◌≡◌, List, ℕ, ◌+◌, ◌-◌, ◌*◌, ◌≤◌, ◌<◌, length}
-use Rattle.answers.specs.declared.Tested.{Tested}
-use Rattle.answers.specs.declared.Tested.TheVariants.{Passed}
 use Rattle.layout.specs.declared.CardRow.{CardRow}
 use Rattle.layout.specs.declared.Row.{Row}
 use Rattle.layout.specs.Counts.{column_count}
@@ -36,10 +35,10 @@ pub record WorkReady (l links : List ℕ) (i : ℕ) (c s : List ℕ) : Type 0 wh
 -- each of n rows from i on can be worked out on the card and the sums that those before it leave
 pub record RowsReady (l links : List ℕ) (i n : ℕ) (c s : List ℕ) : Type 0 where
   pub each :
-      (k : ℕ) → k < n → (steps l i k c s).tested ≡ Passed → WorkReady l links (i + k) (steps l i k c s).card (steps l i k c s).sums
+      (k : ℕ) → k < n → (steps l i k c s).tested ≡ done → WorkReady l links (i + k) (steps l i k c s).card (steps l i k c s).sums
 
 -- the answer, the card and the sums are the step's
-pub record Stepped (z : Step) (t : Tested) (c s : List ℕ) : Type 0 where
+pub record Stepped (z : Step) (t : Answer) (c s : List ℕ) : Type 0 where
   pub answer : t ≡ z.tested
   pub card : c ≡ z.card
   pub sums : s ≡ z.sums

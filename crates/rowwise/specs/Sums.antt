@@ -1,17 +1,15 @@
 -- What each row's fed rows ask of its pickup, kept as three numbers a row while rows are worked out. Definitions only.
-use Rattle.std.specs.Prelude.{cond, List, [], ◌∷◌, ℕ, zero, suc, ◌+◌, ◌-◌, ◌*◌, max, eqb, get_or}
+use Rattle.settle.specs.Outcomes.{Settled}
+use Rattle.answers.specs.declared.Refusal.TheVariants.{Unsettled}
+use Rattle.answers.specs.Answer.{Answer, done}
+use Rattle.std.specs.Prelude.{cond, List, [], ◌∷◌, ℕ, zero, suc, ◌+◌, ◌-◌, ◌*◌, max, eqb, get_or, Ok, Err}
 use Rattle.std.proofs.lemmas.List.Edits.{sets}
-use Rattle.answers.specs.declared.Answer.TheVariants.{Unsettled}
-use Rattle.answers.specs.declared.Tested.{Tested}
-use Rattle.answers.specs.declared.Tested.TheVariants.{Passed, Refused}
 use Rattle.layout.specs.declared.CardRow.{CardRow}
 use Rattle.layout.specs.declared.Row.{Row}
 use Rattle.layout.specs.Card.{card_row_at, put_card_row}
 use Rattle.layout.specs.List.{row_at}
 use Rattle.layout.specs.View.{view_of}
 use Rattle.settle.specs.declared.Fed.{Fed}
-use Rattle.settle.specs.declared.Settled.{Settled}
-use Rattle.settle.specs.declared.Settled.TheVariants.{Set, Unset}
 use Rattle.settle.specs.Fed.{asked, settled_by}
 use Rattle.settle.specs.Settle.{shown}
 
@@ -48,13 +46,13 @@ pushed r k s = cond (eqb r.feeder 0) s (put_fed s (r.feeder - 1) (joined (fed_at
 
 -- one row worked out by the three numbers: the answer, the card and the numbers afterwards
 pub record Step : Type 0 where
-  pub tested : Tested
+  pub tested : Answer
   pub card : List ℕ
   pub sums : List ℕ
 
 unfoldable pub step_by : List ℕ → ℕ → List ℕ → List ℕ → Settled → Step
-step_by l i c s (Set o) = record { tested = Passed; card = put_card_row c i (shown o); sums = pushed (row_at l i) (shown o) s }
-step_by l i c s (Unset why) = record { tested = Refused (Unsettled (i + 1) why); card = c; sums = s }
+step_by l i c s (Ok o) = record { tested = done; card = put_card_row c i (shown o); sums = pushed (row_at l i) (shown o) s }
+step_by l i c s (Err why) = record { tested = Err (Unsettled (i + 1) why); card = c; sums = s }
 
 -- row i settled by its three numbers, and by the card rows of those that it feeds
 abbrev pub settled_at : List ℕ → ℕ → List ℕ → List ℕ → Settled
@@ -64,12 +62,12 @@ unfoldable pub step : List ℕ → ℕ → List ℕ → List ℕ → Step
 step l i c s = step_by l i c s (settled_at l i c s)
 
 -- what follows a step: the next one, unless it is refused
-unfoldable pub on_step : Tested → Step → Step → Step
-on_step Passed z next = next
-on_step (Refused a) z next = z
+unfoldable pub on_step : Answer → Step → Step → Step
+on_step (Ok _) z next = next
+on_step (Err a) z next = z
 
 -- the n rows i, i + 1, .. worked out so, one after the other, up to the first that is refused
 unfoldable pub steps : List ℕ → ℕ → ℕ → List ℕ → List ℕ → Step
-steps l i zero c s = record { tested = Passed; card = c; sums = s }
+steps l i zero c s = record { tested = done; card = c; sums = s }
 steps l i (suc n) c s =
     on_step (steps l i n c s).tested (steps l i n c s) (step l (i + n) (steps l i n c s).card (steps l i n c s).sums)

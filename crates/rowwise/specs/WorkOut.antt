@@ -1,15 +1,12 @@
 -- [01 §4] Rows worked out one after the other on a card: each at its least settings, the rows below as the card has them,
 -- or refused for its own reason. Definitions only.
-use Rattle.std.specs.Prelude.{List, [], ◌∷◌, ℕ, zero, suc, ◌+◌}
-use Rattle.answers.specs.declared.Answer.{Answer}
-use Rattle.answers.specs.declared.Answer.TheVariants.{Unsettled}
-use Rattle.answers.specs.declared.Tested.{Tested}
-use Rattle.answers.specs.declared.Tested.TheVariants.{Passed, Refused}
+use Rattle.settle.specs.Outcomes.{Settled}
+use Rattle.answers.specs.declared.Refusal.TheVariants.{Unsettled}
+use Rattle.answers.specs.Answer.{Answer}
+use Rattle.std.specs.Prelude.{List, [], ◌∷◌, ℕ, zero, suc, ◌+◌, Ok, Err}
 use Rattle.layout.specs.declared.CardRow.{CardRow}
 use Rattle.layout.specs.Card.{card_row_at, put_card_row}
 use Rattle.layout.specs.View.{view_of}
-use Rattle.settle.specs.declared.Settled.{Settled}
-use Rattle.settle.specs.declared.Settled.TheVariants.{Set, Unset}
 use Rattle.settle.specs.Settle.{shown, settled}
 
 -- how working out ends: with the card, or with a refusal
@@ -18,14 +15,14 @@ pub data Worked : Type 0 where
   refused : Answer → Worked
 
 -- a test passed goes on with what is next
-unfoldable pub on_passed : Tested → Worked → Worked
-on_passed Passed next = next
-on_passed (Refused a) next = refused a
+unfoldable pub on_passed : Answer → Worked → Worked
+on_passed (Ok _) next = next
+on_passed (Err a) next = refused a
 
 -- what follows the outcome of row i
 unfoldable pub on_settled : ℕ → Settled → (CardRow → Worked) → Worked
-on_settled i (Set o) next = next (shown o)
-on_settled i (Unset why) next = refused (Unsettled (i + 1) why)
+on_settled i (Ok o) next = next (shown o)
+on_settled i (Err why) next = refused (Unsettled (i + 1) why)
 
 -- the rows of `is` worked out in their order, for the list l on the card c
 unfoldable pub work_out : List ℕ → List ℕ → List ℕ → Worked

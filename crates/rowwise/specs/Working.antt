@@ -1,8 +1,8 @@
 -- A list, a card and sums while rows are worked out: the sums hold, for each row that still matters, what its fed rows that
 -- are done ask of it. Definitions only.
+use Rattle.answers.specs.Answer.{done}
 use Rattle.std.specs.Prelude.{◌≡◌, Bool, true, cond, ◌&&◌, List, ℕ, ◌*◌, ◌≤◌, ◌<◌, length, get_or}
 use Rattle.fold.specs.Fold.{sum_to, max_to}
-use Rattle.answers.specs.declared.Tested.TheVariants.{Passed}
 use Rattle.layout.specs.Card.{card_row_at}
 use Rattle.layout.specs.Counts.{column_count, rows_most}
 use Rattle.layout.specs.List.{rows, row_at}
@@ -40,7 +40,7 @@ pub record Working (l : List ℕ) (done matters : ℕ → Bool) (c s : List ℕ)
 -- a tested list, with room on the card and in the sums, before any row is worked out
 pub record Unworked (l c s : List ℕ) : Type 0 where
   pub rows-to : rows l ≤ rows_most
-  pub tested : rows_test l ≡ Passed
+  pub tested : rows_test l ≡ done
   pub card-room : rows l * column_count ≤ length c
   pub sums-room : rows l * ask_count ≤ length s
   pub sums-clear : (x : ℕ) → get_or s x 0 ≡ 0

@@ -7,7 +7,8 @@
 --     none-exists-exactly         none does exactly when one of them applies
 --     own-zone-true, backup-true  where P3, or P4 for a fed row, fails for the candidate, it fails for every available pickup meeting P1 and P2
 -- Of a row's settling, SettledTheorems.antt says the same: `no-pickup-exactly`, `range-exactly`.
-use Rattle.std.proofs.Common.{Option, Some, None}
+use Rattle.settle.specs.Outcomes.{Picked}
+use Rattle.std.proofs.Common.{Option, Some, None, Ok, Err}
 use mathlib.Core.Path.{◌≡◌, refl, sym, ◌∙◌, subst}
 use mathlib.Core.Bool.{true, false}
 use mathlib.Core.Logic.{◌↔◌, ◌⊎◌, inl, inr, ⊎_elim}
@@ -18,8 +19,6 @@ use Rattle.answers.specs.declared.Cause.{Cause}
 use Rattle.answers.specs.declared.Cause.TheVariants.{Range}
 use Rattle.fold.proofs.BoolLaws.{passes-or-fails, fails, not-both, zero-not-one, lt-or-le}
 use Rattle.layout.specs.View.{View, Settings}
-use Rattle.settle.specs.declared.Picked.{Picked}
-use Rattle.settle.specs.declared.Picked.TheVariants.{Fits, Unfit}
 use Rattle.sides.specs.declared.Primary.{Primary}
 use Rattle.sides.specs.declared.Secondary.{Secondary}
 use Rattle.sides.specs.Sides.{keyed}
@@ -121,8 +120,8 @@ module _ (v : View) (k : Settings) (i : ℕ) (p : 0 < (v.row i).step.0) where
 
   -- what it comes to: the least pickup meeting P1 and P2 also meets P3 and P4, or the cause is so
   abbrev Comes : Picked → Type 0
-  Comes (Fits x) = Candidate v k i x × PickupMet v k i (primary_of (v.row i) x)
-  Comes (Unfit why) = CauseIs v k i why
+  Comes (Ok x) = Candidate v k i x × PickupMet v k i (primary_of (v.row i) x)
+  Comes (Err why) = CauseIs v k i why
 
   comes : Comes (pickup_of v k i)
   unfolding picked judged by_backup
@@ -145,7 +144,7 @@ module _ (v : View) (k : Settings) (i : ℕ) (p : 0 < (v.row i).step.0) where
           rw z (OWN-ZONE (keyed x) ((candidate-exactly x).0 e) (λ s. not-both ((P3-exactly (v.row i) I).1 s) z)))
           (passes-or-fails (sees_own_zone (v.row i) I))
 
-  of-cause : {why : Cause} → CauseIs v k i why → pickup_of v k i ≡ Unfit why
+  of-cause : {why : Cause} → CauseIs v k i why → pickup_of v k i ≡ Err why
   unfolding picked judged by_backup
   of-cause (RANGE n) = rw (no-candidate-exactly.1 n)
   of-cause (OWN-ZONE x m n) =
@@ -155,40 +154,40 @@ module _ (v : View) (k : Settings) (i : ℕ) (p : 0 < (v.row i).step.0) where
       let I = primary_of (v.row i) x in
       rw ((candidate-exactly x.0).1 m, (P3-exactly (v.row i) I).1 z, (unbacked-exactly v i I j).1 u)
 
-  pub cause-exactly : (why : Cause) → (pickup_of v k i ≡ Unfit why) ↔ CauseIs v k i why
+  pub cause-exactly : (why : Cause) → (pickup_of v k i ≡ Err why) ↔ CauseIs v k i why
   cause-exactly why = (λ e. subst Comes e comes, of-cause)
 
   -- there is one only
   pub cause-one : {why why' : Cause} → CauseIs v k i why → CauseIs v k i why' → why ≡ why'
   cause-one c c' = same (sym (of-cause c) ∙ of-cause c')
     where
-      same : {why why' : Cause} → Unfit why ≡ Unfit why' → why ≡ why'
+      same : {why why' : Cause} → Err why ≡ Err why' → why ≡ why'
       same e = cc
 
-  pub fits-exactly : (x : Secondary) → (pickup_of v k i ≡ Fits x) ↔ (Candidate v k i x × PickupMet v k i (primary_of (v.row i) x))
+  pub fits-exactly : (x : Secondary) → (pickup_of v k i ≡ Ok x) ↔ (Candidate v k i x × PickupMet v k i (primary_of (v.row i) x))
   unfolding picked judged by_backup
   fits-exactly x = (λ e. subst Comes e comes, of-fits)
     where
-      of-fits : Candidate v k i x × PickupMet v k i (primary_of (v.row i) x) → pickup_of v k i ≡ Fits x
+      of-fits : Candidate v k i x × PickupMet v k i (primary_of (v.row i) x) → pickup_of v k i ≡ Ok x
       of-fits m =
           let I = primary_of (v.row i) x in
           rw ((candidate-exactly x.0).1 m.0, (P3-exactly (v.row i) I).1 m.1.P3, (backed-all-exactly v i I).1 m.1.P4)
 
   -- where some pickup meets P1 to P4, one fits
-  pub fits-some : SomePickup v k i → (x : Secondary) × (pickup_of v k i ≡ Fits x)
+  pub fits-some : SomePickup v k i → (x : Secondary) × (pickup_of v k i ≡ Ok x)
   fits-some s = by_cases (pickup_of v k i) refl
     where
-      by_cases : (x : Picked) → pickup_of v k i ≡ x → (x : Secondary) × (pickup_of v k i ≡ Fits x)
-      by_cases (Fits I) e = (I, e)
-      by_cases (Unfit why) e = absurd (cause-no-pickup v k i ((cause-exactly why).0 e) s.0 s.1 s.2)
+      by_cases : (x : Picked) → pickup_of v k i ≡ x → (x : Secondary) × (pickup_of v k i ≡ Ok x)
+      by_cases (Ok I) e = (I, e)
+      by_cases (Err why) e = absurd (cause-no-pickup v k i ((cause-exactly why).0 e) s.0 s.1 s.2)
 
   -- some pickup meets P1 to P4, or one of the three applies
   some-or-cause : SomePickup v k i ⊎ ((why : Cause) × CauseIs v k i why)
   some-or-cause = by_cases (pickup_of v k i) comes
     where
       by_cases : (x : Picked) → Comes x → SomePickup v k i ⊎ ((why : Cause) × CauseIs v k i why)
-      by_cases (Fits I) m = inl (I, m.0.available, m.1)
-      by_cases (Unfit why) c = inr (why, c)
+      by_cases (Ok I) m = inl (I, m.0.available, m.1)
+      by_cases (Err why) c = inr (why, c)
 
   pub exists-exactly : SomePickup v k i ↔ ((why : Cause) → CauseIs v k i why → ⊥)
   exists-exactly = (

@@ -1,6 +1,6 @@
 -- A row is settled, or refused with RANGE, OWN ZONE or BACKUP, with CURVE or with DELAY, exactly as sections 3 and 4 and requests §2 and §3
 -- say. That its fields are in range is section 2's. Read with specs/Inequalities.antt.
-use Rattle.std.proofs.Common.{Option, Some, None}
+use Rattle.std.proofs.Common.{Option, Some, None, Ok, Err}
 use mathlib.Core.Path.{◌≡◌, refl, sym, ap, ◌∙◌, subst}
 use mathlib.Core.Bool.{true}
 use mathlib.Core.Logic.{◌↔◌}
@@ -17,8 +17,6 @@ use Rattle.layout.specs.Range.{Bounded}
 use Rattle.layout.specs.View.{View, Settings}
 use Rattle.layout.proofs.CardLaws.{same-columns}
 use Rattle.settle.specs.declared.Outcome.{Outcome}
-use Rattle.settle.specs.declared.Picked.TheVariants.{Fits}
-use Rattle.settle.specs.declared.Settled.TheVariants.{Unset}
 use Rattle.sides.specs.declared.Primary.{Primary}
 use Rattle.sides.specs.declared.Secondary.{Secondary}
 use Rattle.settle.specs.Conditions.{primary_of, pickup_at, multiple_at, setting_of}
@@ -41,7 +39,7 @@ module _ (v : View) (k : Settings) (i : ℕ) (a : Bounded (v.row i)) where
   least I = least_setting (v.row i) (meets_time v k i (v.row i) I)
 
   -- the pickup that is found is the least
-  pub pickup-exactly : (x : Secondary) → (pickup_of v k i ≡ Fits x) ↔ LeastPickup v k i x
+  pub pickup-exactly : (x : Secondary) → (pickup_of v k i ≡ Ok x) ↔ LeastPickup v k i x
   pickup-exactly x = (
     λ e.
         let m = (fits-exactly v k i a.step_from x).0 e in
@@ -84,7 +82,7 @@ module _ (v : View) (k : Settings) (i : ℕ) (a : Bounded (v.row i)) where
     )
 
   -- RANGE, OWN ZONE and BACKUP exactly where the cause is so
-  pub no-pickup-exactly : (why : Cause) → (settled v k i ≡ Unset (Pickup why)) ↔ CauseIs v k i why
+  pub no-pickup-exactly : (why : Cause) → (settled v k i ≡ Err (Pickup why)) ↔ CauseIs v k i why
   unfolding settled outcome_of
   no-pickup-exactly why = (
     λ e. (cause-exactly v k i a.step_from why).0 (outcome-no-pickup (v.row i) slow least (pickup_of v k i) why e),
@@ -92,12 +90,12 @@ module _ (v : View) (k : Settings) (i : ℕ) (a : Bounded (v.row i)) where
   )
 
   -- RANGE exactly where no available pickup meets P1 and P2
-  pub range-exactly : (settled v k i ≡ Unset (Pickup Range)) ↔ NoCandidate v k i
+  pub range-exactly : (settled v k i ≡ Err (Pickup Range)) ↔ NoCandidate v k i
   range-exactly = (λ e. range-means v k i refl ((no-pickup-exactly Range).0 e), λ n. (no-pickup-exactly Range).1 (RANGE n))
 
   -- CURVE exactly where, at the least pickup, an M that is needed is at most 1.000, the first of them in the order given
   pub no-curve-exactly :
-      (place : ℕ) → (settled v k i ≡ Unset (Curve place)) ↔
+      (place : ℕ) → (settled v k i ≡ Err (Curve place)) ↔
       ((x : Secondary) × LeastPickup v k i x × CurveIs v k i (primary_of (v.row i) x) place)
   unfolding settled outcome_of timed
   no-curve-exactly place = (
@@ -109,7 +107,7 @@ module _ (v : View) (k : Settings) (i : ℕ) (a : Bounded (v.row i)) where
 
   -- DELAY exactly where, at the least pickup, every M that is needed is over 1.000, and no delay or multiplier meets D1 and D2
   pub no-delay-exactly :
-      (settled v k i ≡ Unset Delay) ↔
+      (settled v k i ≡ Err Delay) ↔
       ((x : Secondary) × LeastPickup v k i x × Runs v k i (primary_of (v.row i) x) × NoTime v k i (primary_of (v.row i) x))
   unfolding settled outcome_of timed
   no-delay-exactly = (

@@ -1,5 +1,6 @@
 -- [02 §3] The second stage of settling a row, one law for each way that its functions end.
-use Rattle.std.proofs.Common.{Option, Some, None}
+use Rattle.answers.specs.declared.Reason.TheVariants.{Curve, Delay}
+use Rattle.std.proofs.Common.{Option, Some, None, Ok, Err}
 use mathlib.Core.Path.{◌≡◌, refl, sym, ap, ap₂, ◌∙◌}
 use mathlib.Core.Bool.{Bool, true, false, cond, ◌&&◌}
 use Prim.Native.Nat.{ℕ, ◌+◌, ◌≤◌}
@@ -11,9 +12,6 @@ use Rattle.fold.proofs.BoolLaws.{not-both, zero-not-one}
 use Rattle.layout.specs.declared.CardRow.{CardRow}
 use Rattle.layout.specs.declared.Row.{Row}
 use Rattle.layout.specs.View.{View, Settings}
-use Rattle.settle.specs.declared.FedTime.TheVariants.{Takes, Slow}
-use Rattle.settle.specs.declared.Timed.TheVariants.{Setting, Stalled, NoSetting}
-use Rattle.settle.specs.declared.Wanted.TheVariants.{From, Stuck}
 use Rattle.sides.specs.declared.Primary.{Primary}
 use Rattle.settle.specs.Conditions.{primary_of, multiple_at, fed_multiple, fed_time, fed_stalls, stalls_at, setting_of}
 use Rattle.settle.specs.Conditions.{within_delays, margin_between, graded_above}
@@ -28,13 +26,13 @@ module _ (f : Row) (s : CardRow) (I : Primary) (m : ℕ) (e_I : I ≡ primary_of
   stalls-is =
       ap (stalls s.law) em ∙ needed-stalls s.law f f I ∙ ap (λ (I : Primary). stalls s.law (multiple_at f f I)) e_I
 
-  pub fed-slow : stalls s.law m ≡ true → Slow ≡ fed_time_of f s
+  pub fed-slow : stalls s.law m ≡ true → None ≡ fed_time_of f s
   unfolding fed_time_of
   fed-slow e = rw (sym stalls-is ∙ e)
 
-  pub fed-takes : (x t : ℕ) → stalls s.law m ≡ false → x ≡ setting_of s → t ≡ time_of s.law m x → Takes t ≡ fed_time_of f s
+  pub fed-takes : (x t : ℕ) → stalls s.law m ≡ false → x ≡ setting_of s → t ≡ time_of s.law m x → Some t ≡ fed_time_of f s
   unfolding fed_time_of
-  fed-takes x t e ex et = rw (sym stalls-is ∙ e) (ap Takes takes)
+  fed-takes x t e ex et = rw (sym stalls-is ∙ e) (ap Some takes)
     where
       takes : t ≡ fed_time f s
       takes =
@@ -43,47 +41,47 @@ module _ (f : Row) (s : CardRow) (I : Primary) (m : ℕ) (e_I : I ≡ primary_of
 
 -- what its time being this or that says
 module _ (f : Row) (s : CardRow) where
-  slow-means : fed_time_of f s ≡ Slow → fed_stalls f s ≡ true
+  slow-means : fed_time_of f s ≡ None → fed_stalls f s ≡ true
   unfolding fed_time_of
   slow-means e = by_cases (fed_stalls f s) e
     where
-      by_cases : (b : Bool) → cond b Slow (Takes (fed_time f s)) ≡ Slow → b ≡ true
+      by_cases : (b : Bool) → cond b None (Some (fed_time f s)) ≡ None → b ≡ true
       by_cases true e = refl
       by_cases false e = absurd (zero-not-one cc)
 
-  takes-means : (t : ℕ) → fed_time_of f s ≡ Takes t → (fed_stalls f s ≡ false) × (t ≡ fed_time f s)
+  takes-means : (t : ℕ) → fed_time_of f s ≡ Some t → (fed_stalls f s ≡ false) × (t ≡ fed_time f s)
   unfolding fed_time_of
   takes-means t e = by_cases (fed_stalls f s) e
     where
-      by_cases : (b : Bool) → cond b Slow (Takes (fed_time f s)) ≡ Takes t → (b ≡ false) × (t ≡ fed_time f s)
+      by_cases : (b : Bool) → cond b None (Some (fed_time f s)) ≡ Some t → (b ≡ false) × (t ≡ fed_time f s)
       by_cases true e = absurd (zero-not-one cc)
       by_cases false e = let q : fed_time f s ≡ t = cc in (refl, sym q)
 
-  pub takes-to : (t : ℕ) → CardBounded f s → fed_time_of f s ≡ Takes t → t ≤ 60000000
+  pub takes-to : (t : ℕ) → CardBounded f s → fed_time_of f s ≡ Some t → t ≤ 60000000
   takes-to t b e = omega (arith, (takes-means t e).1, time-to s.law (fed_multiple f s) (setting_of s) b.setting-to)
 
 -- what fed row j asks of row i, by its fields r and at its pickup I
 module _ (v : View) (k : Settings) (i : ℕ) (r : Row) (I : Primary) (j : ℕ) where
-  pub stuck-fed : fed_time_of (v.row j) (k j) ≡ Slow → WantedIs v k i r I j (Stuck (j + 1))
+  pub stuck-fed : fed_time_of (v.row j) (k j) ≡ None → WantedIs v k i r I j (Err (j + 1))
   unfolding stalled_there
   stuck-fed e =
       let s = slow-means (v.row j) (k j) e in
       (ap (λ (b : Bool). Some (cond b (j + 1) (i + 1))) s, λ n. absurd (not-both s n))
 
-  module _ (t m : ℕ) (e : fed_time_of (v.row j) (k j) ≡ Takes t) (em : m ≡ needed_multiple r.law r (v.row j) I) where
+  module _ (t m : ℕ) (e : fed_time_of (v.row j) (k j) ≡ Some t) (em : m ≡ needed_multiple r.law r (v.row j) I) where
     runs : fed_stalls (v.row j) (k j) ≡ false
     runs = (takes-means (v.row j) (k j) t e).0
 
     own_is : stalls r.law m ≡ stalls_at r (v.row j) I
     own_is = ap (stalls r.law) em ∙ needed-stalls r.law r (v.row j) I
 
-    pub stuck-own : stalls r.law m ≡ true → WantedIs v k i r I j (Stuck (i + 1))
+    pub stuck-own : stalls r.law m ≡ true → WantedIs v k i r I j (Err (i + 1))
     unfolding stalled_there
     stuck-own s = (ap (λ (b : Bool). Some (cond b (j + 1) (i + 1))) runs, λ _. sym own_is ∙ s)
 
     pub wanted-from :
         (want b : ℕ) → stalls r.law m ≡ false → want ≡ t + margin_between r.device (v.row j).device →
-        ((x : ℕ) → leb b x ≡ leb want (time_of r.law m x)) → WantedIs v k i r I j (From b)
+        ((x : ℕ) → leb b x ≡ leb want (time_of r.law m x)) → WantedIs v k i r I j (Ok b)
     unfolding graded_above
     wanted-from want b s ew bound = (
       runs,
@@ -96,7 +94,7 @@ module _ (v : View) (k : Settings) (i : ℕ) (r : Row) (I : Primary) (j : ℕ) w
 
 -- between definite rows no M is needed: the time is the delay
 module _ (v : View) (k : Settings) (i : ℕ) (r : Row) (I : Primary) (j : ℕ) (er : r.law ≡ 0) (es : (k j).law ≡ 0) where
-  pub wanted-definite : (b : ℕ) → b ≡ (k j).delay + margin_between r.device (v.row j).device → WantedIs v k i r I j (From b)
+  pub wanted-definite : (b : ℕ) → b ≡ (k j).delay + margin_between r.device (v.row j).device → WantedIs v k i r I j (Ok b)
   unfolding graded_above
   wanted-definite b e = (
     ap (λ (law : ℕ). stalls law (fed_multiple (v.row j) (k j))) es ∙ definite-runs (fed_multiple (v.row j) (k j)),
@@ -128,17 +126,17 @@ module _ (v : View) (k : Settings) (i : ℕ) (r : Row) (I : Primary) (m : ℕ) (
   unfolding stalled
   by-own b e = ap (λ (b : Bool). cond b (Some (i + 1)) (stalled_there v k i (first_stalling v k i r I))) (sym own-stalls ∙ e)
 
-  pub row-stalls : stalls r.law m ≡ true → Stalled (i + 1) ≡ timed_by (stalled v k i r I) (least_setting r (meets_time v k i r I))
+  pub row-stalls : stalls r.law m ≡ true → Err (Curve (i + 1)) ≡ timed_by (stalled v k i r I) (least_setting r (meets_time v k i r I))
   unfolding timed_by
   row-stalls e = rw (by-own true e)
 
   module _ (e : stalls r.law m ≡ false) where
     pub row-stuck :
-        (place : ℕ) → WalkIs v k i r I (Stuck place) → Stalled place ≡ timed_by (stalled v k i r I) (least_setting r (meets_time v k i r I))
+        (place : ℕ) → WalkIs v k i r I (Err place) → Err (Curve place) ≡ timed_by (stalled v k i r I) (least_setting r (meets_time v k i r I))
     unfolding timed_by
     row-stuck place w = rw (by-own false e ∙ w)
 
-    module _ (b : ℕ) (w : WalkIs v k i r I (From b)) where
+    module _ (b : ℕ) (w : WalkIs v k i r I (Ok b)) where
       runs-all : stalled v k i r I ≡ None
       unfolding stalled_there
       runs-all = by-own false e ∙ ap (stalled_there v k i) w.0
@@ -153,12 +151,12 @@ module _ (v : View) (k : Settings) (i : ℕ) (r : Row) (I : Primary) (m : ℕ) (
 
       pub row-none :
           least_setting r (λ x. within_delays r (time_of r.law m x) && leb b x) ≡ None →
-          NoSetting ≡ timed_by (stalled v k i r I) (least_setting r (meets_time v k i r I))
+          (Err Delay) ≡ timed_by (stalled v k i r I) (least_setting r (meets_time v k i r I))
       unfolding timed_by
       row-none g = rw (runs-all, sym setting-from ∙ g)
 
       pub row-set :
           (x : ℕ) → least_setting r (λ x. within_delays r (time_of r.law m x) && leb b x) ≡ Some x →
-          Setting x ≡ timed_by (stalled v k i r I) (least_setting r (meets_time v k i r I))
+          Ok x ≡ timed_by (stalled v k i r I) (least_setting r (meets_time v k i r I))
       unfolding timed_by
       row-set x g = rw (runs-all, sym setting-from ∙ g)

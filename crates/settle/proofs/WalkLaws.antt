@@ -1,5 +1,6 @@
 -- [02 §3] Going through the rows that row i feeds, ascending by their links: so far none of them has an M at most 1.000, and the settings from
 -- `from` on are those that meet D2 above each of them.
+use Rattle.std.proofs.Common.{Ok, Err}
 use mathlib.Core.Path.{◌≡◌, refl, sym, ap, ◌∙◌}
 use mathlib.Core.Bool.{Bool, true, false, cond, not, ◌&&◌, ◌||◌}
 use mathlib.Core.Logic.{◌≢◌, ⊎_elim}
@@ -23,7 +24,6 @@ use Rattle.layout.specs.declared.Row.{Row}
 use Rattle.layout.specs.Card.{card_row_at}
 use Rattle.layout.specs.List.{rows}
 use Rattle.layout.specs.View.{View, view_of, Settings}
-use Rattle.settle.specs.declared.Wanted.TheVariants.{From, Stuck}
 use Rattle.sides.specs.declared.Primary.{Primary}
 use Rattle.settle.specs.Conditions.{fed, fed_stalls, stalls_at, graded_above}
 use Rattle.settle.specs.Settle.{stalls_by, first_stalling, stalled_there}
@@ -95,7 +95,7 @@ module _ (l c : List ℕ) (i : ℕ) (r : Row) (I : Primary) where
     left_here = rw here w.left
 
     -- it stops at row j
-    pub walk-stuck : (place : ℕ) → WantedIs v k i r I j (Stuck place) → WalkIs v k i r I (Stuck place)
+    pub walk-stuck : (place : ℕ) → WantedIs v k i r I j (Err place) → WalkIs v k i r I (Err place)
     unfolding stalls_by
     walk-stuck place s =
         ap (stalled_there v k i)
@@ -108,7 +108,7 @@ module _ (l c : List ℕ) (i : ℕ) (r : Row) (I : Primary) where
 
     -- or goes on behind it
     pub walk-next :
-        (b from' next' : ℕ) → WantedIs v k i r I j (From b) → from' ≡ max from b → next' ≡ link_to (rows l) (fed_from l i (j + 1)) →
+        (b from' next' : ℕ) → WantedIs v k i r I j (Ok b) → from' ≡ max from b → next' ≡ link_to (rows l) (fed_from l i (j + 1)) →
         Walking from' next'
     unfolding stalls_by
     walk-next b from' next' s e q =
@@ -138,7 +138,7 @@ module _ (l c : List ℕ) (i : ℕ) (r : Row) (I : Primary) where
         (λ (b : rows l ≤ x). rw (eq-eqb next' 0 (e ∙ link-to-none (rows l) x b)) (omega (arith, walk-row)))
         (lt-or-le x (rows l)))
 
-  pub walk_end : (from next : ℕ) → Walking from next → next ≡ 0 → WalkIs v k i r I (From from)
+  pub walk_end : (from next : ℕ) → Walking from next → next ≡ 0 → WalkIs v k i r I (Ok from)
   walk_end from next w h =
       let e : w.at ≡ rows l = omega (arith, link-none (rows l) w.at next w.link h, w.within) in
       (w.left ∙ first-end (stalls_by v k i r I) w.at (rows l) (omega arith), λ x. w.asked x ∙ ap (λ (n : ℕ). every n (graded x)) e)

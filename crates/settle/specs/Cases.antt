@@ -1,7 +1,8 @@
 -- [01 §3, §4], [02 §1, §2, §3, §5] Worked cases of one row's conditions and of its settling, each worked out by hand from the section, on
 -- each side of every bound. Rows are named by their numbers, from 1. Definitions only.
-use Rattle.std.specs.Prelude.{Bool, true, false, not, cond, ◌&&◌, List, [], ◌∷◌, ℕ, zero, suc, ◌+◌, ◌-◌, ◌*◌, eqb, set}
-use Rattle.answers.specs.declared.Answer.TheVariants.{Unsettled}
+use Rattle.settle.specs.Outcomes.{Settled}
+use Rattle.answers.specs.declared.Refusal.TheVariants.{Unsettled}
+use Rattle.std.specs.Prelude.{Bool, true, false, not, cond, ◌&&◌, List, [], ◌∷◌, ℕ, zero, suc, ◌+◌, ◌-◌, ◌*◌, eqb, set, Ok, Err}
 use Rattle.answers.specs.Answer.{given_by}
 use Rattle.layout.specs.Card.{columns_of}
 use Rattle.layout.specs.Counts.{field_count}
@@ -10,8 +11,6 @@ use Rattle.layout.specs.Fields.{at_primary, at_secondary, at_law, at_greatest}
 use Rattle.layout.specs.View.{view_of, Settings}
 use Rattle.layout.specs.declared.CardRow.{CardRow}
 use Rattle.layout.specs.declared.Row.{Row}
-use Rattle.settle.specs.declared.Settled.{Settled}
-use Rattle.settle.specs.declared.Settled.TheVariants.{Set, Unset}
 use Rattle.sides.specs.declared.Primary.{Primary}
 use Rattle.sides.specs.Sides.{milliamperes, keyed}
 use Rattle.settle.specs.Conditions.{primary_of, each_fed, returns_after_self_start, clear_of, sees_own_zone, backs_up}
@@ -227,8 +226,8 @@ conditions =
 
 -- row n settled: 0 and its card row, or the numbers of its refusal
 abbrev outcome : ℕ → Settled → List ℕ
-outcome n (Set o) = 0 ∷ columns_of (shown o)
-outcome n (Unset why) = given_by (Unsettled n why)
+outcome n (Ok o) = 0 ∷ columns_of (shown o)
+outcome n (Err why) = given_by (Unsettled n why)
 
 -- two lists have the same numbers
 unfoldable pub same : List ℕ → List ℕ → Bool

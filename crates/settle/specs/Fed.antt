@@ -1,14 +1,13 @@
 -- What the rows that a row feeds ask of its pickup, in three numbers, so that it is found without looking at them again, but to
 -- name the first for which P4 fails. What they ask of its time depends on the pickup found, so they are gone through for that.
 -- `gathered` says what the numbers are; that settling by them is settling by section 3 is a law. Definitions only.
+use Rattle.settle.specs.Outcomes.{Picked, Settled}
 use Rattle.std.specs.Prelude.{Bool, cond, ◌&&◌, ℕ, ◌+◌, ◌-◌, ◌*◌, ◌≤◌, eqb, Option, None}
 use Rattle.fold.specs.Fold.{sum_to, max_to}
 use Rattle.layout.specs.declared.CardRow.{CardRow}
 use Rattle.layout.specs.declared.Row.{Row}
 use Rattle.layout.specs.View.{View, Settings}
 use Rattle.settle.specs.declared.Fed.{Fed}
-use Rattle.settle.specs.declared.Picked.{Picked}
-use Rattle.settle.specs.declared.Settled.{Settled}
 use Rattle.sides.specs.declared.Primary.{Primary}
 use Rattle.sides.specs.Sides.{setting_most}
 use Rattle.curve.specs.Curve.{setting_to}

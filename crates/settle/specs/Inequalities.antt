@@ -2,7 +2,7 @@
 -- feeds being at the settings k. Available is what the relay offers on its own side; conditions are on primary currents, in fifths of a mA
 -- on both sides, and "lower" is lower in primary. The tests of Conditions.antt and the settling of Settle.antt are proved to say exactly
 -- this, and the demands are stated with it. Rows are counted from 0: row i has number i + 1. Definitions only.
-use Rattle.std.specs.Prelude.{◌≡◌, not, cond, ◌&&◌, List, ℕ, ◌+◌, ◌*◌, ◌≤◌, ◌<◌, eqb}
+use Rattle.std.specs.Prelude.{◌≡◌, not, cond, ◌&&◌, List, ℕ, ◌+◌, ◌*◌, ◌≤◌, ◌<◌, eqb, Ok}
 use Rattle.answers.specs.declared.Cause.{Cause}
 use Rattle.answers.specs.declared.Cause.TheVariants.{Range, OwnZone, Backup}
 use Rattle.grid.specs.Grid.{Available}
@@ -15,7 +15,6 @@ use Rattle.layout.specs.View.{View, view_of, Settings}
 use Rattle.settle.specs.declared.Cutoff.{Cutoff}
 use Rattle.settle.specs.declared.Cutoff.TheVariants.{Fitted, NotFitted}
 use Rattle.settle.specs.declared.Outcome.{Outcome}
-use Rattle.settle.specs.declared.Settled.TheVariants.{Set}
 use Rattle.sides.specs.declared.Primary.{Primary}
 use Rattle.sides.specs.declared.Secondary.{Secondary}
 use Rattle.settle.specs.Conditions.{primary_of, pickup_at, fed, others_load, margin, multiple_at, time_at, setting_of, fed_multiple, fed_time}
@@ -188,5 +187,5 @@ pub record LeastRow (v : View) (k : Settings) (i : ℕ) : Type 0 where
 -- row i's settings are what settling it gives
 pub record RowSettled (v : View) (k : Settings) (i : ℕ) : Type 0 where
   pub outcome : Outcome
-  pub settles : settled v k i ≡ Set outcome
+  pub settles : settled v k i ≡ Ok outcome
   pub shows : k i ≡ shown outcome

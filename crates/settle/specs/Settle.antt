@@ -1,5 +1,6 @@
 -- [01 §3, §4], [02 §1, §2, §3] The least settings of one row, the rows below at the settings k, or why there are none. Definitions only.
-use Rattle.std.specs.Prelude.{Bool, not, cond, ◌&&◌, ◌||◌, ℕ, ◌+◌, Option, Some, None}
+use Rattle.settle.specs.Outcomes.{Picked, Settled}
+use Rattle.std.specs.Prelude.{Bool, not, cond, ◌&&◌, ◌||◌, ℕ, ◌+◌, Option, Some, None, Ok, Err}
 use Rattle.answers.specs.declared.Cause.TheVariants.{Range, OwnZone, Backup}
 use Rattle.answers.specs.declared.Reason.TheVariants.{Pickup, Curve, Delay}
 use Rattle.curve.specs.Curve.{is_curve, setting_from, setting_to}
@@ -11,10 +12,6 @@ use Rattle.layout.specs.View.{View, Settings}
 use Rattle.settle.specs.declared.Cutoff.{Cutoff}
 use Rattle.settle.specs.declared.Cutoff.TheVariants.{Fitted, NotFitted}
 use Rattle.settle.specs.declared.Outcome.{Outcome}
-use Rattle.settle.specs.declared.Picked.{Picked}
-use Rattle.settle.specs.declared.Picked.TheVariants.{Fits, Unfit}
-use Rattle.settle.specs.declared.Settled.{Settled}
-use Rattle.settle.specs.declared.Settled.TheVariants.{Set, Unset}
 use Rattle.sides.specs.declared.Primary.{Primary}
 use Rattle.sides.specs.declared.Secondary.{Secondary}
 use Rattle.sides.specs.Sides.{keyed}
@@ -61,15 +58,15 @@ candidate v k i = least_pickup (v.row i) (meets_lower v k i)
 
 -- "otherwise test the own zone, then the fed rows ascending": candidate x, the first fed row for which it fails P4 being u
 unfoldable pub by_backup : Secondary → Option ℕ → Picked
-by_backup x None = Fits x
-by_backup x (Some j) = Unfit (Backup (j + 1))
+by_backup x None = Ok x
+by_backup x (Some j) = Err (Backup (j + 1))
 
 unfoldable pub judged : Row → Secondary → Option ℕ → Picked
-judged r x u = cond (sees_own_zone r (primary_of r x)) (by_backup x u) (Unfit OwnZone)
+judged r x u = cond (sees_own_zone r (primary_of r x)) (by_backup x u) (Err OwnZone)
 
 -- "if there is none it is RANGE"; `failed` gives, for a pickup, the first fed row for which it fails P4
 unfoldable pub picked : Row → Option ℕ → (Primary → Option ℕ) → Picked
-picked r None failed = Unfit Range
+picked r None failed = Err Range
 picked r (Some x) failed = judged r (keyed x) (failed (primary_of r (keyed x)))
 
 -- the pickup of row i, or why it has none
@@ -113,15 +110,15 @@ shown o =
 
 -- the second stage, at the pickup x: CURVE before DELAY
 unfoldable pub timed : Row → Secondary → Option ℕ → Option ℕ → Settled
-timed r x (Some place) setting = Unset (Curve place)
-timed r x None None = Unset Delay
-timed r x None (Some t) = Set (record { pickup = x; law = r.law; setting = t; cutoff = cutoff_of r })
+timed r x (Some place) setting = Err (Curve place)
+timed r x None None = Err Delay
+timed r x None (Some t) = Ok (record { pickup = x; law = r.law; setting = t; cutoff = cutoff_of r })
 
 -- a row's outcome, the cause that no pickup fits before both; `slow` and `least` give, for a pickup, the row whose M is at most 1.000, and
 -- the least setting
 unfoldable pub outcome_of : Row → Picked → (Primary → Option ℕ) → (Primary → Option ℕ) → Settled
-outcome_of r (Unfit why) slow least = Unset (Pickup why)
-outcome_of r (Fits x) slow least = timed r x (slow (primary_of r x)) (least (primary_of r x))
+outcome_of r (Err why) slow least = Err (Pickup why)
+outcome_of r (Ok x) slow least = timed r x (slow (primary_of r x)) (least (primary_of r x))
 
 -- the least settings of row i, or why it has none
 unfoldable pub settled : View → Settings → ℕ → Settled

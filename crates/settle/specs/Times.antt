@@ -1,16 +1,13 @@
 -- [02 §3] How the second stage of settling a row goes, by what the rows that it feeds ask one by one; that it comes to what Settle.antt says
 -- is a law. Definitions only.
-use Rattle.std.specs.Prelude.{◌≡◌, true, false, cond, ℕ, leb, Option, Some, None}
+use Rattle.settle.specs.declared.Stalled.{Stalled}
+use Rattle.answers.specs.declared.Reason.TheVariants.{Curve, Delay}
+use Rattle.answers.specs.declared.Reason.{Reason}
+use Rattle.std.specs.Prelude.{◌≡◌, true, false, cond, ℕ, leb, Option, Some, None, Result, Ok, Err}
 use Rattle.curve.specs.Curve.{is_curve}
 use Rattle.layout.specs.declared.CardRow.{CardRow}
 use Rattle.layout.specs.declared.Row.{Row}
 use Rattle.layout.specs.View.{View, Settings}
-use Rattle.settle.specs.declared.Wanted.{Wanted}
-use Rattle.settle.specs.declared.Wanted.TheVariants.{From, Stuck}
-use Rattle.settle.specs.declared.FedTime.{FedTime}
-use Rattle.settle.specs.declared.FedTime.TheVariants.{Takes, Slow}
-use Rattle.settle.specs.declared.Timed.{Timed}
-use Rattle.settle.specs.declared.Timed.TheVariants.{Setting, Stalled, NoSetting}
 use Rattle.sides.specs.declared.Primary.{Primary}
 use Rattle.settle.specs.Conditions.{each_fed, multiple_at, fed_time, fed_stalls, stalls_at, graded_above}
 use Rattle.settle.specs.Settle.{first_stalling, stalled_there}
@@ -20,25 +17,25 @@ unfoldable pub needed_multiple : ℕ → Row → Row → Primary → ℕ
 needed_multiple law r f I = cond (is_curve law) (multiple_at r f I) 0
 
 -- a fed row's time, or none
-unfoldable pub fed_time_of : Row → CardRow → FedTime
-fed_time_of f s = cond (fed_stalls f s) Slow (Takes (fed_time f s))
+unfoldable pub fed_time_of : Row → CardRow → Option ℕ
+fed_time_of f s = cond (fed_stalls f s) None (Some (fed_time f s))
 
 -- CURVE before DELAY
-unfoldable pub timed_by : Option ℕ → Option ℕ → Timed
-timed_by (Some place) setting = Stalled place
-timed_by None None = NoSetting
-timed_by None (Some x) = Setting x
+unfoldable pub timed_by : Option ℕ → Option ℕ → Result ℕ Reason
+timed_by (Some place) setting = Err (Curve place)
+timed_by None None = (Err Delay)
+timed_by None (Some x) = Ok x
 
 -- what fed row j asks of row i, by its fields r and at its pickup I: its M or row i's there is at most 1.000, in this order; or the
 -- settings that meet D2 above it are those from b on
-abbrev pub WantedIs : View → Settings → ℕ → Row → Primary → ℕ → Wanted → Type 0
-WantedIs v k i r I j (Stuck place) =
+abbrev pub WantedIs : View → Settings → ℕ → Row → Primary → ℕ → Result ℕ Stalled → Type 0
+WantedIs v k i r I j (Err place) =
     (stalled_there v k i (Some j) ≡ Some place) × (((fed_stalls (v.row j) (k j) ≡ false) → (stalls_at r (v.row j) I ≡ true)))
-WantedIs v k i r I j (From b) =
+WantedIs v k i r I j (Ok b) =
     (fed_stalls (v.row j) (k j) ≡ false) × (stalls_at r (v.row j) I ≡ false) × ((x : ℕ) → leb b x ≡ graded_above r (v.row j) (k j) I x)
 
 -- what all fed rows ask
-abbrev pub WalkIs : View → Settings → ℕ → Row → Primary → Wanted → Type 0
-WalkIs v k i r I (Stuck place) = stalled_there v k i (first_stalling v k i r I) ≡ Some place
-WalkIs v k i r I (From b) =
+abbrev pub WalkIs : View → Settings → ℕ → Row → Primary → Result ℕ Stalled → Type 0
+WalkIs v k i r I (Err place) = stalled_there v k i (first_stalling v k i r I) ≡ Some place
+WalkIs v k i r I (Ok b) =
     (first_stalling v k i r I ≡ None) × ((x : ℕ) → leb b x ≡ each_fed v i (λ j. graded_above r (v.row j) (k j) I x))

@@ -25,8 +25,7 @@ use Rattle.sides.specs.Sides.{setting_most}
 use Rattle.sides.proofs.SidesLaws.{setting-to}
 use Rattle.calculate.proofs.CardRange.{card-in-range, card-length}
 use Rattle.fold.proofs.BoolLaws.{lt-or-le}
-use Rattle.answers.specs.Answer.{given_by}
-use Rattle.answers.specs.declared.Answer.TheVariants.{Done}
+use Rattle.answers.specs.Answer.{given_by, done}
 use Rattle.text.specs.declared.Reading.TheVariants.{Rows}
 use Rattle.text.specs.Gets.{NoCrlf}
 use Rattle.text.specs.Grammar.{All, IsNumber, IsNameText, Row, Cells, Line, Lines, Text, rows, rows_as, all_names, numbers_in}
@@ -124,7 +123,7 @@ in-range-below primary card i r = by-column (i % column_count) refl
     by-column (suc (suc (suc (suc zero)))) e = rw (at 4 e) (omega (arith, r.multiplier-to))
     by-column (suc (suc (suc (suc (suc k))))) e = absurd (omega arith)
 
-module _ (s : List ℕ) (rs : List Row) (size : length s ≤ 65536) (t : ListText s rs) (e : (whole_of rs).answer ≡ Done) where
+module _ (s : List ℕ) (rs : List Row) (size : length s ≤ 65536) (t : ListText s rs) (e : (whole_of rs).answer ≡ done) where
   few : length rs ≤ 256
   few =
       ⊎_elim

@@ -1,4 +1,6 @@
 -- Which numbers the whole calculation gives a text's rows [01 §4]: 0 where it is done, never TEXT, and never ROOM, as the card has room for 256 rows.
+use Rattle.answers.specs.declared.Refusal.TheVariants.{Text, Count, Room, Field, Tree, Unsettled, Study, Card, Edit, Input, Slope}
+use Rattle.std.proofs.Common.{Ok}
 use mathlib.Core.Path.{◌≡◌, refl}
 use mathlib.Core.Bool.{true, false≢true}
 use mathlib.Core.List.{List}
@@ -7,10 +9,8 @@ use native.Mathlib.Omega.{arith}
 use lib.Dec.{lit≤}
 use lib.ListN.{length, get_or}
 use Rattle.fold.proofs.BoolLaws.{not-both}
-use Rattle.answers.specs.declared.Answer.{Answer}
-use Rattle.answers.specs.declared.Answer.TheVariants.{Done, Text, Count, Room, Field, Tree, Unsettled, Study, Card, Edit, Input, Slope}
 use Rattle.answers.specs.declared.Reason.TheVariants.{Pickup}
-use Rattle.answers.specs.Answer.{given_by}
+use Rattle.answers.specs.Answer.{given_by, Answer, done}
 use Rattle.answers.proofs.AnswerLaws.{unsettled-above, unsettled-not-0}
 use Rattle.layout.specs.Counts.{card_most}
 use Rattle.layout.specs.View.{View}
@@ -23,8 +23,8 @@ use Rattle.calculate.proofs.Demand1.{every-list-gets}
 use Rattle.sheet.specs.Sheet.{blank_card, done}
 
 -- an answer with the number 0 is done
-pub given-done : (a : Answer) → done (given_by a) ≡ true → a ≡ Done
-given-done Done h = refl
+pub given-done : (a : Answer) → done (given_by a) ≡ true → a ≡ done
+given-done (Ok _) h = refl
 given-done (Text line) h = absurd (false≢true h)
 given-done Count h = absurd (false≢true h)
 given-done Room h = absurd (false≢true h)

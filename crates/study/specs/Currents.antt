@@ -1,9 +1,8 @@
 -- The study's currents [01 §5] with their sides [02 §9], and what is given back for them [01 §4]: DONE or STUDY.
 -- `cond b x y` is x where b is true and y where it is false. Definitions only.
 use Rattle.std.specs.Prelude.{ℕ, Bool, true, false, not, ◌&&◌, ◌||◌, cond, Float}
-use Rattle.answers.specs.declared.Answer.{Answer}
 use Rattle.answers.specs.declared.Answer.TheVariants as answer
-use Rattle.answers.specs.Answer.{number_of, place_of}
+use Rattle.answers.specs.Answer.{number_of, place_of, Answer}
 use Rattle.single.specs.Exact.{used}
 use Rattle.single.specs.SingleCurrent.{allowed, current_of}
 use Rattle.single.specs.declared.Rounding.{Rounding}

@@ -27,9 +27,9 @@ link-requires c = links-ready c.args.list.now c.args.card.now c.requires _ (lit�
 pub work_rows-worked-requires : goal.work_rows-worked-requires
 work_rows-worked-requires c = all-rows-ready _ _ _ (unworked (goal.at.work_rows-worked-requires c).Start _ (lit≤ tt)) _ c.link.ensures
 
-pub returns-in-Refused : goal.returns-in-Refused
-returns-in-Refused c = let e = all-worked _ _ _ (unworked (goal.at.returns-in-Refused c).Start _ (lit≤ tt)) _ _ _ c.work_rows-worked.ensures in
-    answered-refused _ _ c.requires _ _ _ _ (lit≤ tt) e c.in-Refused.is
+pub returns-in-Err : goal.returns-in-Err
+returns-in-Err c = let e = all-worked _ _ _ (unworked (goal.at.returns-in-Err c).Start _ (lit≤ tt)) _ _ _ c.work_rows-worked.ensures in
+    answered-refused _ _ c.requires _ _ _ _ (lit≤ tt) e c.in-Err.is
 
 pub copy_front-requires : goal.copy_front-requires
 copy_front-requires c = let k : length c.work_rows-worked.new.card ≡ card_most = c.work_rows-worked.auto.card in

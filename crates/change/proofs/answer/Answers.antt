@@ -4,12 +4,12 @@ use Rattle.change.proofs.EditLaws.{edit-passed}
 use Rattle.change.proofs.EntryLaws.{answer-size, answer-edit, answer-ready, answer-exchanged}
 use Rattle.change.proofs.answer.Goals as goal
 
-pub returns-in-Refused : goal.returns-in-Refused
-returns-in-Refused c = answer-size _ _ _ _ _ _ c.test_size-size.ensures c.in-Refused.is
+pub returns-in-Err : goal.returns-in-Err
+returns-in-Err c = answer-size _ _ _ _ _ _ c.test_size-size.ensures c.in-Err.is
 
-pub returns-in-Refused-edit : goal.returns-in-Refused-edit
-returns-in-Refused-edit c = answer-edit _ _ _ _ _ c.test_size-size.ensures c.in_default.is _ c.test_edit-edit.ensures _
-    c.in-Refused-edit.is
+pub returns-in-Err-edit : goal.returns-in-Err-edit
+returns-in-Err-edit c = answer-edit _ _ _ _ _ c.test_size-size.ensures c.in_default.is _ c.test_edit-edit.ensures _
+    c.in-Err-edit.is
 
 pub overflow_sub-place : goal.overflow_sub-place
 overflow_sub-place c = (edit-passed _ _ _ (sym c.test_edit-edit.ensures ∙ c.in_default-edit.is)).from

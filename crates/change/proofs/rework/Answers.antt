@@ -2,12 +2,12 @@
 use Rattle.change.proofs.EntryLaws.{rework-rows, rework-card, rework-ready, rework-path}
 use Rattle.change.proofs.rework.Goals as goal
 
-pub returns-in-Refused : goal.returns-in-Refused
-returns-in-Refused c = rework-rows _ _ _ _ _ c.test_rows-tested.ensures c.in-Refused.is
+pub returns-in-Err : goal.returns-in-Err
+returns-in-Err c = rework-rows _ _ _ _ _ c.test_rows-tested.ensures c.in-Err.is
 
-pub returns-in-Refused-found : goal.returns-in-Refused-found
-returns-in-Refused-found c = rework-card _ _ _ _ c.test_rows-tested.ensures c.in_default.is _ c.test_card-found.ensures _
-    c.in-Refused-found.is
+pub returns-in-Err-found : goal.returns-in-Err-found
+returns-in-Err-found c = rework-card _ _ _ _ c.test_rows-tested.ensures c.in_default.is _ c.test_card-found.ensures _
+    c.in-Err-found.is
 
 pub work_path-requires : goal.work_path-requires
 work_path-requires c = rework-ready _ _ _ _ c.test_rows-tested.ensures c.in_default.is _ c.test_card-found.ensures

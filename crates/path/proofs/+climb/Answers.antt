@@ -13,8 +13,8 @@ card_row_at-old-requires t c = (climb-works _ _ _ _ _ c.requires).in-card
 pub work_rows-own-requires : goal.work_rows-own-requires
 work_rows-own-requires t c = climb-ready _ _ _ _ _ c.requires
 
-pub returns-in-Refused : goal.returns-in-Refused
-returns-in-Refused t c = climb-refused _ _ _ _ _ c.requires _ _ _ c.work_rows-own.ensures c.args.feeding _ c.in-Refused.is
+pub returns-in-Err : goal.returns-in-Err
+returns-in-Err t c = climb-refused _ _ _ _ _ c.requires _ _ _ c.work_rows-own.ensures c.args.feeding _ c.in-Err.is
 
 pub stays-requires : goal.stays-requires
 stays-requires t c = let k = climb-works _ _ _ _ _ c.requires in omega (arith, k.in-card, c.work_rows-own.auto.card)
@@ -50,11 +50,11 @@ overflow_add-result t c = let p = climb-passes _ _ _ _ _ c.requires _ _ _ c.work
     c.field_at-feeder.ensures c.if-feeder-eq0.false _ _ _
     c.climb.ensures c.in-Rows.is in omega (arith, few)
 
-pub returns-in-Refused-climb : goal.returns-in-Refused-climb
-returns-in-Refused-climb t c = let p = climb-passes _ _ _ _ _ c.requires _ _ _ c.work_rows-own.ensures c.in_default.is in
+pub returns-in-Err-climb : goal.returns-in-Err-climb
+returns-in-Err-climb t c = let p = climb-passes _ _ _ _ _ c.requires _ _ _ c.work_rows-own.ensures c.in_default.is in
     climb-back p c.args.feeding _ c.card_row_at-old.ensures _ c.stays.ensures c.if-stays.false _
     c.field_at-feeder.ensures c.if-feeder-eq0.false _ _ _ _
-    c.climb.ensures c.in-Refused-climb.is c.put_card_row.ensures
+    c.climb.ensures c.in-Err-climb.is c.put_card_row.ensures
 
 pub returns-in-Rows : goal.returns-in-Rows
 returns-in-Rows t c = let p = climb-passes _ _ _ _ _ c.requires _ _ _ c.work_rows-own.ensures c.in_default.is in

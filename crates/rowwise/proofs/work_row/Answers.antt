@@ -36,17 +36,17 @@ put_card_row-requires c = c.requires.in-card
 pub push-requires : goal.push-requires
 push-requires c = let a = c.requires in
     let bounded = subst Bounded (sym c.row_at-r.ensures) (a.all-bounded _ a.is_row) in
-    let k = set-bounded _ _ _ _ _ _ bounded (sym c.in-Set.is ∙ c.settle.ensures) in
+    let k = set-bounded _ _ _ _ _ _ bounded (sym c.in-Ok.is ∙ c.settle.ensures) in
     record {
       bounded = bounded;
       settings = subst (CardBounded _) (sym c.card_row-k.ensures) k;
       feeder = of_row _ _ _ c.row_at-r.ensures a.feeder;
     }
 
-pub returns-in-Unset : goal.returns-in-Unset
-returns-in-Unset c = step-unsettled _ _ _ _ _ _ c.row_at-r.ensures c.fed_at.ensures _
-    (sym c.in-Unset.is ∙ c.settle.ensures)
+pub returns-in-Err : goal.returns-in-Err
+returns-in-Err c = step-unsettled _ _ _ _ _ _ c.row_at-r.ensures c.fed_at.ensures _
+    (sym c.in-Err.is ∙ c.settle.ensures)
 
-pub returns-in-Set : goal.returns-in-Set
-returns-in-Set c = step_set _ _ _ _ _ _ c.row_at-r.ensures c.fed_at.ensures _ _ _ _
-    (sym c.in-Set.is ∙ c.settle.ensures) c.card_row-k.ensures c.put_card_row.ensures c.push.ensures
+pub returns-in-Ok : goal.returns-in-Ok
+returns-in-Ok c = step_set _ _ _ _ _ _ c.row_at-r.ensures c.fed_at.ensures _ _ _ _
+    (sym c.in-Ok.is ∙ c.settle.ensures) c.card_row-k.ensures c.put_card_row.ensures c.push.ensures

@@ -10,14 +10,14 @@ loop-i-init c = stepping-start _ _ _ _ _
 pub work_row-tested-requires : goal.work_row-tested-requires
 work_row-tested-requires c = stepping-ready _ _ _ _ _ _ _ _ c.loop-i.invariant _ c.requires c.loop-i-test.true
 
-pub shape_of-card-in-Refused : goal.shape_of-card-in-Refused
-shape_of-card-in-Refused c = c.work_row-tested.auto.card ∙ c.loop-i.invariant.card-length
+pub shape_of-card-in-Err : goal.shape_of-card-in-Err
+shape_of-card-in-Err c = c.work_row-tested.auto.card ∙ c.loop-i.invariant.card-length
 
-pub shape_of-sums-in-Refused : goal.shape_of-sums-in-Refused
-shape_of-sums-in-Refused c = c.work_row-tested.auto.sums ∙ c.loop-i.invariant.sums-length
+pub shape_of-sums-in-Err : goal.shape_of-sums-in-Err
+shape_of-sums-in-Err c = c.work_row-tested.auto.sums ∙ c.loop-i.invariant.sums-length
 
-pub returns-in-Refused : goal.returns-in-Refused
-returns-in-Refused c = stepping-refused _ _ _ _ _ _ _ _ c.loop-i.invariant _ _ _ _ c.loop-i-test.true c.in-Refused.is c.work_row-tested.ensures
+pub returns-in-Err : goal.returns-in-Err
+returns-in-Err c = stepping-refused _ _ _ _ _ _ _ _ c.loop-i.invariant _ _ _ _ c.loop-i-test.true c.in-Err.is c.work_row-tested.ensures
 
 pub overflow_add-i : goal.overflow_add-i
 overflow_add-i c = omega arith

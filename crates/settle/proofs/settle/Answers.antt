@@ -1,13 +1,12 @@
 -- `settle::settle` meets its contract: the pickup, or the cause that there is none; then the second stage at that pickup.
+use Rattle.answers.specs.declared.Reason.{Reason}
+use Rattle.std.proofs.Common.{Result, Ok}
 use mathlib.Core.Path.{◌≡◌, sym, ap, ◌∙◌, subst}
 use Prim.Native.Nat.{ℕ}
 use Rattle.layout.specs.declared.Row.{Row}
 use Rattle.layout.specs.Card.{card_row_at}
 use Rattle.layout.specs.View.{view_of}
 use Rattle.settle.specs.declared.Cutoff.{Cutoff}
-use Rattle.settle.specs.declared.Settled.TheVariants.{Set}
-use Rattle.settle.specs.declared.Timed.{Timed}
-use Rattle.settle.specs.declared.Timed.TheVariants.{Setting}
 use Rattle.sides.specs.declared.Secondary.{Secondary}
 use Rattle.settle.specs.Fed.{PrimaryBounded, settled_by}
 use Rattle.settle.specs.Settle.{cutoff_of}
@@ -18,34 +17,34 @@ use Rattle.settle.proofs.settle.Goals.{After-time_row}
 
 -- what the second stage came to is the row's outcome
 second :
-    (c : After-time_row) {t : Timed} → c.time_row.result ≡ t →
-    by_time c.args.r c.in-Fits.pickup t ≡
+    (c : After-time_row) {t : Result ℕ Reason} → c.time_row.result ≡ t →
+    by_time c.args.r c.in-Ok.pickup t ≡
     settled_by (view_of c.args.list.now) (card_row_at c.args.card.now)
     c.args.i c.args.r c.args.f
 second c e =
-    stage-two _ _ _ _ _ _ _ _ (sym c.pick.ensures ∙ c.in-Fits.is) c.in_primary.ensures
+    stage-two _ _ _ _ _ _ _ _ (sym c.pick.ensures ∙ c.in-Ok.is) c.in_primary.ensures
     (sym e ∙ c.time_row.ensures)
 
 -- with the cutoff that was found
 fitted :
     (r : Row) (x : Secondary) (t : ℕ) (c : Cutoff) → c ≡ cutoff_of r →
-    Set (record { pickup = x; law = r.law; setting = t; cutoff = c }) ≡ by_time r x (Setting t)
-fitted r x t c e = ap (λ (c : Cutoff). Set (record { pickup = x; law = r.law; setting = t; cutoff = c })) e
+    Ok (record { pickup = x; law = r.law; setting = t; cutoff = c }) ≡ by_time r x (Ok t)
+fitted r x t c e = ap (λ (c : Cutoff). Ok (record { pickup = x; law = r.law; setting = t; cutoff = c })) e
 
 pub in_primary-requires : goal.in_primary-requires
 in_primary-requires c = let a = c.requires in
-    (a.0.bounded.rated, picked-to _ _ _ _ a.0.bounded _ (sym c.pick.ensures ∙ c.in-Fits.is))
+    (a.0.bounded.rated, picked-to _ _ _ _ a.0.bounded _ (sym c.pick.ensures ∙ c.in-Ok.is))
 
 pub time_row-requires : goal.time_row-requires
 time_row-requires c = let a = c.requires in (
   a.0,
   subst PrimaryBounded (sym c.in_primary.ensures)
-      (found-fits _ a.0.bounded _ (picked-to _ _ _ _ a.0.bounded _ (sym c.pick.ensures ∙ c.in-Fits.is))),
+      (found-fits _ a.0.bounded _ (picked-to _ _ _ _ a.0.bounded _ (sym c.pick.ensures ∙ c.in-Ok.is))),
   a.2,
 )
 
-pub returns-in-Unfit : goal.returns-in-Unfit
-returns-in-Unfit c = no-pickup _ _ _ _ _ _ (sym c.pick.ensures ∙ c.in-Unfit.is)
+pub returns-in-Err : goal.returns-in-Err
+returns-in-Err c = no-pickup _ _ _ _ _ _ (sym c.pick.ensures ∙ c.in-Err.is)
 
 pub returns-in-Stalled : goal.returns-in-Stalled
 returns-in-Stalled c = second (goal.at.returns-in-Stalled c).After-time_row c.in-Stalled.is
@@ -53,5 +52,5 @@ returns-in-Stalled c = second (goal.at.returns-in-Stalled c).After-time_row c.in
 pub returns-in-NoSetting : goal.returns-in-NoSetting
 returns-in-NoSetting c = second (goal.at.returns-in-NoSetting c).After-time_row c.in-NoSetting.is
 
-pub returns-in-Setting : goal.returns-in-Setting
-returns-in-Setting c = fitted _ _ _ _ c.cutoff_at.ensures ∙ second (goal.at.returns-in-Setting c).After-time_row c.in-Setting.is
+pub returns-in-Ok : goal.returns-in-Ok
+returns-in-Ok c = fitted _ _ _ _ c.cutoff_at.ensures ∙ second (goal.at.returns-in-Ok c).After-time_row c.in-Ok.is

@@ -1,6 +1,6 @@
 -- `study::answer` meets its contract: each return is the case that `answer_of` has for the two currents.
+use Rattle.answers.specs.Answer.{done}
 use mathlib.Core.Path.{◌≡◌}
-use Rattle.answers.specs.declared.Answer.TheVariants.{Done}
 use Rattle.single.specs.declared.Sides.{Sides}
 use Rattle.single.specs.declared.Current.{Current}
 use Rattle.single.specs.declared.Current.TheVariants.{Milliamperes, Refused}
@@ -15,7 +15,7 @@ least-refused : {r : Converted} {g l : Current} {gs : Sides} → g ≡ Milliampe
 least-refused e f h = rw (e, f) h
 
 both-given :
-    {r : Converted} {g l : Current} {gs ls : Sides} → g ≡ Milliamperes gs → l ≡ Milliamperes ls → r ≡ given Done gs ls → r ≡ answer_of g l
+    {r : Converted} {g l : Current} {gs ls : Sides} → g ≡ Milliamperes gs → l ≡ Milliamperes ls → r ≡ given done gs ls → r ≡ answer_of g l
 both-given e f h = rw (e, f) h
 
 pub returns-in_default : goal.returns-in_default

@@ -1,5 +1,6 @@
 -- `settle::times::ask_curve` meets its contract: the fed row's time or that it is slow, then row i's M there, then the least setting for that time
 -- and the larger step.
+use Rattle.std.proofs.Common.{Option}
 use mathlib.Core.Path.{◌≡◌, sym, ap, ap₂, ◌∙◌, subst}
 use Prim.Native.Nat.{ℕ, ◌+◌, ◌≤◌}
 use native.Mathlib.Omega.{arith}
@@ -9,7 +10,6 @@ use Rattle.layout.specs.Card.{card_row_at}
 use Rattle.layout.specs.Range.{Bounded}
 use Rattle.layout.specs.View.{view_of}
 use Rattle.sides.specs.declared.Primary.{Primary}
-use Rattle.settle.specs.declared.FedTime.{FedTime}
 use Rattle.settle.specs.Fed.{CardBounded}
 use Rattle.settle.specs.Conditions.{margin_between}
 use Rattle.settle.specs.Times.{needed_multiple, fed_time_of}
@@ -27,7 +27,7 @@ module _ (f f' : Row) (s s' : CardRow) (ef : f ≡ f') (es : s ≡ s') where
     subst (λ (f : Row). CardBounded f s) (sym ef) (subst (CardBounded f') (sym es) k),
   )
 
-  time-read : (t u : FedTime) → t ≡ fed_time_of f s → t ≡ u → fed_time_of f' s' ≡ u
+  time-read : (t u : Option ℕ) → t ≡ fed_time_of f s → t ≡ u → fed_time_of f' s' ≡ u
   time-read t u e g = sym (ap₂ fed_time_of ef es) ∙ sym e ∙ g
 
 multiple-read : (law : ℕ) (r f f' : Row) (I : Primary) (m : ℕ) → f ≡ f' → m ≡ needed_multiple law r f I → m ≡ needed_multiple law r f' I
@@ -55,7 +55,7 @@ needed_multiple-m-requires c = let a = c.requires in
 
 pub returns-then-stalls : goal.returns-then-stalls
 returns-then-stalls c = stuck-own _ _ _ _ _ _ _ _
-    (time-read _ _ _ _ c.row_at-f.ensures c.card_row_at.ensures _ _ c.fed_time.ensures c.in-Takes.is)
+    (time-read _ _ _ _ c.row_at-f.ensures c.card_row_at.ensures _ _ c.fed_time.ensures c.in-Some.is)
     (multiple-read _ _ _ _ _ _ c.row_at-f.ensures c.needed_multiple-m.ensures) (sym c.stalls.ensures ∙ c.if-stalls.true)
 
 pub overflow_add-t : goal.overflow_add-t
@@ -63,25 +63,25 @@ overflow_add-t c = omega (
   arith,
   margin-fits (goal.at.overflow_add-t c).After-margin_between,
   takes-to _ _ _ c.requires.settings-to
-      (time-read _ _ _ _ c.row_at-f.ensures c.card_row_at.ensures _ _ c.fed_time.ensures c.in-Takes.is),
+      (time-read _ _ _ _ c.row_at-f.ensures c.card_row_at.ensures _ _ c.fed_time.ensures c.in-Some.is),
 )
 
 pub least_setting-requires : goal.least_setting-requires
 least_setting-requires c = let to = takes-to _ _ _ c.requires.settings-to
-    (time-read _ _ _ _ c.row_at-f.ensures c.card_row_at.ensures _ _ c.fed_time.ensures c.in-Takes.is) in (
+    (time-read _ _ _ _ c.row_at-f.ensures c.card_row_at.ensures _ _ c.fed_time.ensures c.in-Some.is) in (
       subst (λ (c : ℕ). c ≤ 20000) (sym c.needed_multiple-m.ensures) (needed-to _ _ _ _),
       omega (arith, margin-fits (goal.at.least_setting-requires c).After-margin_between),
       sym c.stalls.ensures ∙ c.if-stalls.false,
     )
 
-pub returns-in-Slow : goal.returns-in-Slow
-returns-in-Slow c = stuck-fed _ _ _ _ _ _
-    (time-read _ _ _ _ c.row_at-f.ensures c.card_row_at.ensures _ _ c.fed_time.ensures c.in-Slow.is)
+pub returns-in-None : goal.returns-in-None
+returns-in-None c = stuck-fed _ _ _ _ _ _
+    (time-read _ _ _ _ c.row_at-f.ensures c.card_row_at.ensures _ _ c.fed_time.ensures c.in-None.is)
 
 pub returns-else-stalls : goal.returns-else-stalls
 returns-else-stalls c = let s = c.args in
     wanted-from (view_of s.list.now) (card_row_at s.card.now) s.i s.r s.pickup s.j _ _
-    (time-read _ _ _ _ c.row_at-f.ensures c.card_row_at.ensures _ _ c.fed_time.ensures c.in-Takes.is)
+    (time-read _ _ _ _ c.row_at-f.ensures c.card_row_at.ensures _ _ c.fed_time.ensures c.in-Some.is)
     (multiple-read _ _ _ _ _ _ c.row_at-f.ensures c.needed_multiple-m.ensures) _ _
     (sym c.stalls.ensures ∙ c.if-stalls.false)
     (want-read _ _ _ _ c.row_at-f.ensures _ c.margin_between.ensures) c.least_setting.ensures

@@ -19,14 +19,14 @@ least_time-requires c = (
   sym c.stalls.ensures ∙ c.if-stalls.false,
 )
 
-pub returns-in-Stuck : goal.returns-in-Stuck
-returns-in-Stuck c = row-stuck _ _ _ _ _ _ c.needed_multiple-m.ensures (sym c.stalls.ensures ∙ c.if-stalls.false) _
-    (subst (WalkIs _ _ _ _ _) c.in-Stuck.is c.walk.ensures)
+pub returns-in-Err : goal.returns-in-Err
+returns-in-Err c = row-stuck _ _ _ _ _ _ c.needed_multiple-m.ensures (sym c.stalls.ensures ∙ c.if-stalls.false) _
+    (subst (WalkIs _ _ _ _ _) c.in-Err.is c.walk.ensures)
 
 pub returns-in-None : goal.returns-in-None
 returns-in-None c = row-none _ _ _ _ _ _ c.needed_multiple-m.ensures (sym c.stalls.ensures ∙ c.if-stalls.false) _
-    (subst (WalkIs _ _ _ _ _) c.in-From.is c.walk.ensures) (sym c.least_time.ensures ∙ c.in-None.is)
+    (subst (WalkIs _ _ _ _ _) c.in-Ok.is c.walk.ensures) (sym c.least_time.ensures ∙ c.in-None.is)
 
 pub returns-in-Some : goal.returns-in-Some
 returns-in-Some c = row-set _ _ _ _ _ _ c.needed_multiple-m.ensures (sym c.stalls.ensures ∙ c.if-stalls.false) _
-    (subst (WalkIs _ _ _ _ _) c.in-From.is c.walk.ensures) _ (sym c.least_time.ensures ∙ c.in-Some.is)
+    (subst (WalkIs _ _ _ _ _) c.in-Ok.is c.walk.ensures) _ (sym c.least_time.ensures ∙ c.in-Some.is)

@@ -22,9 +22,9 @@ ask-requires c = let w = c.loop-next.invariant in
       settings-to = a.2.settings-to _ row (walk-feeds _ _ _ _ _ _ _ w c.loop-next-test.true);
     }
 
-pub returns-in-Stuck : goal.returns-in-Stuck
-returns-in-Stuck c = walk-stuck _ _ _ _ _ _ _ c.loop-next.invariant c.loop-next-test.true _
-    c.in-Stuck.ensures
+pub returns-in-Err : goal.returns-in-Err
+returns-in-Err c = walk-stuck _ _ _ _ _ _ _ c.loop-next.invariant c.loop-next-test.true _
+    c.in-Err.ensures
 
 pub next_fed-next-requires : goal.next_fed-next-requires
 next_fed-next-requires c = (c.requires.2.linked, walk-row _ _ _ _ _ _ _ c.loop-next.invariant c.loop-next-test.true)
@@ -35,7 +35,7 @@ loop-next-smaller c = let w = c.loop-next.invariant in
 
 pub loop-next-preserved : goal.loop-next-preserved
 loop-next-preserved c = let w = c.loop-next.invariant in
-    walk-next _ _ _ _ _ _ _ w c.loop-next-test.true _ _ _ c.in-From.ensures
+    walk-next _ _ _ _ _ _ _ w c.loop-next-test.true _ _ _ c.in-Ok.ensures
     c.greater-from.ensures (c.next_fed-next.ensures _ (walk-feeds _ _ _ _ _ _ _ w c.loop-next-test.true))
 
 pub returns : goal.returns
