@@ -1,7 +1,7 @@
 -- The tests 2 to 5 exactly: each ends as it does where the list is so, at the first row and field, and no other way.
 use Rattle.answers.specs.declared.Refusal.TheVariants.{Field}
 use Rattle.answers.specs.Answer.{Answer}
-use Rattle.std.proofs.Common.{Option, Some, None, Err}
+use Rattle.std.proofs.Common.{Option, Some, None, unwrap_or, Err}
 use mathlib.Core.Path.{◌≡◌, refl, sym, ap, ◌∙◌, subst}
 use mathlib.Core.Bool.{Bool, true, false, cond}
 use mathlib.Core.Logic.{◌⊎◌, ◌↔◌, inl, inr, ⊎_elim}
@@ -22,7 +22,7 @@ use Rattle.rows.specs.Tests.{tree_answer, tree_test, rows_test}
 use Rattle.rows.specs.InRange.{RightSize, RowInRange, InRange, FieldInRange, FirstWrong, LowAboveHigh, HighAboveMost}
 use Rattle.rows.specs.InRange.{FirstOutOfRange, SizeGets, RowsGet}
 use Rattle.rows.proofs.InRangeLaws.{field-in-range, low-fault, high-fault, no-fault-row, in-range-field, row-no-fault}
-use Rattle.rows.proofs.InRangeLaws.{right-feeds, feeds-right, in-range-none, in-range-passes}
+use Rattle.rows.proofs.InRangeLaws.{not_some, right-feeds, feeds-right, in-range-none, in-range-passes}
 use Rattle.rows.proofs.TestLaws.{size-ragged, size_none, size-over, size-short, size-right}
 
 -- ---- 2 COUNT and 3 ROOM
@@ -98,7 +98,7 @@ size-rows l s = omega (arith, s.whole-rows, s.most)
 
 module _ (l : List ℕ) (few : rows l ≤ rows_most) where
   -- the fault of a row that has one
-  out-fault : (i k : ℕ) → FirstOutOfRange l i k → row_fault l i ≡ k + 1
+  out-fault : (i k : ℕ) → FirstOutOfRange l i k → row_fault l i ≡ Some (k + 1)
   unfolding row_fault fault_after
   out-fault i k f =
       ⊎_elim
@@ -109,9 +109,9 @@ module _ (l : List ℕ) (few : rows l ≤ rows_most) where
       (λ m a b. rw (right m (w.fields-before m b)))))
       (⊎_elim
       (λ (w : LowAboveHigh l i k).
-      rw (none w.fields-right) (low-fault l i w.above ∙ omega (arith, w.named)))
+      rw (none w.fields-right) (low-fault l i w.above ∙ ap (λ (x : ℕ). Some x) (sym w.named)))
       (λ (w : HighAboveMost l i k).
-      rw (none w.fields-right) (high-fault l i w.low-at-most-high w.above ∙ omega (arith, w.named))))
+      rw (none w.fields-right) (high-fault l i w.low-at-most-high w.above ∙ ap (λ (x : ℕ). Some x) (sym w.named))))
       f.fault
     where
       right : (m : ℕ) → FieldInRange l i m → field_right l i m ≡ true
@@ -131,14 +131,14 @@ module _ (l : List ℕ) (few : rows l ≤ rows_most) where
     order-named :
         ((m : ℕ) → m < field_count → FieldInRange l i m) → (a b : Bool) → leb (field l i at_low) (field l i at_high) ≡ a →
         leb (field l i at_high * field l i at_primary) (100000000 * field l i at_secondary) ≡ b →
-        (cond a (cond b 0 (at_high + 1)) (at_low + 1) ≡ 0 → ⊥) → Fault
+        (cond a (cond b None (Some (at_high + 1))) (Some (at_low + 1)) ≡ None → ⊥) → Fault
     order-named right false b d e n = named at_low (inr (inl (record { fields-right = right; above = leb-false _ _ d; named = refl })))
     order-named right true false d e n =
         named at_high
         (inr (inr (record { fields-right = right; low-at-most-high = leb-true _ _ d; above = leb-false _ _ e; named = refl })))
     order-named right true true d e n = absurd (n refl)
 
-    fault-named : (found : Option ℕ) → first (field_wrong l i) 0 field_count ≡ found → (fault_after (order_fault l i) found ≡ 0 → ⊥) → Fault
+    fault-named : (found : Option ℕ) → first (field_wrong l i) 0 field_count ≡ found → (fault_after (order_fault l i) found ≡ None → ⊥) → Fault
     unfolding fault_after order_fault high_right
     fault-named (Some k) e n =
         let a = first-at (field_wrong l i) field_count 0 k e in
@@ -153,7 +153,7 @@ module _ (l : List ℕ) (few : rows l ≤ rows_most) where
         order-named (λ m b. field-in-range l i m (not-false _ (first-nothing (field_wrong l i) field_count 0 e m (omega arith) (omega arith))))
         (leb (field l i at_low) (field l i at_high)) (leb (field l i at_high * field l i at_primary) (100000000 * field l i at_secondary)) refl refl n
 
-    fault-of : (row_fault l i ≡ 0 → ⊥) → Fault
+    fault-of : (row_fault l i ≡ None → ⊥) → Fault
     unfolding row_fault
     fault-of n = fault-named (first (field_wrong l i) 0 field_count) refl n
 
@@ -164,9 +164,9 @@ module _ (l : List ℕ) (few : rows l ≤ rows_most) where
       let q = out-fault i k f in
       rw
       (first-is (row_at_fault l) (rows l) 0 i (omega arith) (omega (arith, f.inside))
-      (rw (q, ne_eqb (k + 1) 0 (λ z. omega arith)))
+      (rw q)
       (λ j a b. rw (row-no-fault l j (omega (arith, f.inside)) (f.rows_before j b))))
-      (ap (λ (x : ℕ). Err (Field (i + 1) x)) q)
+      (ap (λ (x : Option ℕ). Err (Field (i + 1) (unwrap_or x 0))) q)
   get_rows (RowsGet.TREE i a f) =
       rw (
         in-range-none l few a,
@@ -198,14 +198,14 @@ module _ (l : List ℕ) (few : rows l ≤ rows_most) where
       by_field : (f : Option ℕ) → first (row_at_fault l) 0 (rows l) ≡ f → RowsGet l (rows_test l)
       by_field None e =
           by-tree
-          (λ i h. no-fault-row l i (eqb-true _ _ (not-false _ (first-nothing (row_at_fault l) (rows l) 0 e i (omega arith) (omega arith)))))
+          (λ i h. no-fault-row l i (not_some _ (first-nothing (row_at_fault l) (rows l) 0 e i (omega arith) (omega arith))))
           (first (fed_wrongly l) 0 (rows l)) refl
       by_field (Some i) e =
           let f = first-at (row_at_fault l) (rows l) 0 i e in
           let n : (k : ℕ) × FirstOutOfRange l i k =
           fault-of i (omega (arith, f.below))
-          (λ j b. no-fault-row l j (eqb-true (row_fault l j) 0 (not-false _ (f.before j (omega arith) b))))
-          (eqb-false (row_fault l i) 0 (not-true _ f.passes)) in
+          (λ j b. no-fault-row l j (not_some (row_fault l j) (f.before j (omega arith) b)))
+          (λ z. not-both f.passes (rw z)) in
           given (RowsGet.FIELD i n.0 n.1)
 
   pub rows-exactly : (t : Answer) → (rows_test l ≡ t) ↔ RowsGet l t

@@ -1,6 +1,6 @@
 -- The tests of a field, a row and its feeding pass exactly what is in range and feeds as section 2 says; what the rows of such a list are.
 use Rattle.answers.specs.Answer.{Answer, done}
-use Rattle.std.proofs.Common.{Option, Some, None}
+use Rattle.std.proofs.Common.{Option, Some, None, is_some}
 use mathlib.Core.Path.{◌≡◌, refl, ap, ap₂}
 use mathlib.Core.Bool.{Bool, true, false, not, cond, ◌&&◌, ◌||◌}
 use mathlib.Core.Logic.{◌⊎◌, ◌↔◌, inl, inr, ⊎_elim}
@@ -69,17 +69,17 @@ module _ (l : List ℕ) (i : ℕ) where
       }
 
   -- a row without fault has its fields right, and they are in order
-  no-fault-none : (f : Option ℕ) (o : ℕ) → fault_after o f ≡ 0 → f ≡ None
+  no-fault-none : (f o : Option ℕ) → fault_after o f ≡ None → f ≡ None
   unfolding fault_after
-  no-fault-none (Some k) o e = absurd (omega arith)
+  no-fault-none (Some k) o e = absurd (zero-not-one cc)
   no-fault-none None o e = refl
 
-  no-fault-order : (f : Option ℕ) (o : ℕ) → fault_after o f ≡ 0 → o ≡ 0
+  no-fault-order : (f o : Option ℕ) → fault_after o f ≡ None → o ≡ None
   unfolding fault_after
-  no-fault-order (Some k) o e = absurd (omega arith)
+  no-fault-order (Some k) o e = absurd (zero-not-one cc)
   no-fault-order None o e = e
 
-  no-fault-fields : row_fault l i ≡ 0 → (k : ℕ) → k < field_count → field_right l i k ≡ true
+  no-fault-fields : row_fault l i ≡ None → (k : ℕ) → k < field_count → field_right l i k ≡ true
   unfolding row_fault
   no-fault-fields e k h =
       not-false _ (first-nothing (λ k. not (field_right l i k)) field_count 0 (no-fault-none _ _ e) k (omega arith) (omega arith))
@@ -106,8 +106,8 @@ module _ (l : List ℕ) (i : ℕ) where
       }
 
   -- the test of the order of a row's fields, by each way that it ends
-  abbrev Ordered : ℕ → Type 0
-  Ordered o = (o ≡ 0 → field l i at_low ≤ field l i at_high) × (o ≡ 0 → field l i at_high * field l i at_primary ≤ 100000000 * field l i at_secondary)
+  abbrev Ordered : Option ℕ → Type 0
+  Ordered o = (o ≡ None → field l i at_low ≤ field l i at_high) × (o ≡ None → field l i at_high * field l i at_primary ≤ 100000000 * field l i at_secondary)
 
   pub order-right : Ordered (order_fault l i)
   unfolding order_fault high_right
@@ -115,29 +115,29 @@ module _ (l : List ℕ) (i : ℕ) where
     where
       by_cases :
           (a : Bool) → leb (field l i at_low) (field l i at_high) ≡ a → (b : Bool) →
-          high_right (field l i at_high) (field l i at_primary) (field l i at_secondary) ≡ b → Ordered (cond a (cond b 0 (at_high + 1)) (at_low + 1))
+          high_right (field l i at_high) (field l i at_primary) (field l i at_secondary) ≡ b → Ordered (cond a (cond b None (Some (at_high + 1))) (Some (at_low + 1)))
       by_cases true e true f = (λ _. leb-true _ _ e, λ _. leb-true _ _ f)
-      by_cases true e false f = (λ z. absurd (omega arith), λ z. absurd (omega arith))
-      by_cases false e b f = (λ z. absurd (omega arith), λ z. absurd (omega arith))
+      by_cases true e false f = (λ z. absurd (zero-not-one cc), λ z. absurd (zero-not-one cc))
+      by_cases false e b f = (λ z. absurd (zero-not-one cc), λ z. absurd (zero-not-one cc))
 
   by_order :
       {a b : Bool} → leb (field l i at_low) (field l i at_high) ≡ a →
       leb (field l i at_high * field l i at_primary) (100000000 * field l i at_secondary) ≡ b →
-      order_fault l i ≡ cond a (cond b 0 (at_high + 1)) (at_low + 1)
+      order_fault l i ≡ cond a (cond b None (Some (at_high + 1))) (Some (at_low + 1))
   unfolding order_fault high_right
-  by_order e f = ap₂ (λ (a b : Bool). cond a (cond b 0 (at_high + 1)) (at_low + 1)) e f
+  by_order e f = ap₂ (λ (a b : Bool). cond a (cond b None (Some (at_high + 1))) (Some (at_low + 1))) e f
 
-  pub low-fault : field l i at_high < field l i at_low → order_fault l i ≡ at_low + 1
+  pub low-fault : field l i at_high < field l i at_low → order_fault l i ≡ Some (at_low + 1)
   low-fault h = by_order (lt-leb _ _ h) refl
 
   module _ (o : field l i at_low ≤ field l i at_high) where
-    pub high-fault : 100000000 * field l i at_secondary < field l i at_high * field l i at_primary → order_fault l i ≡ at_high + 1
+    pub high-fault : 100000000 * field l i at_secondary < field l i at_high * field l i at_primary → order_fault l i ≡ Some (at_high + 1)
     high-fault h = by_order (le-leb _ _ o) (lt-leb _ _ h)
 
-    pub right-order : field l i at_high * field l i at_primary ≤ 100000000 * field l i at_secondary → order_fault l i ≡ 0
+    pub right-order : field l i at_high * field l i at_primary ≤ 100000000 * field l i at_secondary → order_fault l i ≡ None
     right-order h = by_order (le-leb _ _ o) (le-leb _ _ h)
 
-  pub no-fault-row : row_fault l i ≡ 0 → RowInRange l i
+  pub no-fault-row : row_fault l i ≡ None → RowInRange l i
   unfolding row_fault
   no-fault-row e =
       let z = no-fault-order _ _ e in
@@ -158,7 +158,7 @@ module _ (l : List ℕ) (i : ℕ) where
         (implied (eqb k 0) _ (λ z. eq-eqb _ _ (r.own-number (eqb-true k 0 z))))
         (implied (eqb k at_secondary) _ (λ z. (rating-exactly (field l i at_primary) (field l i k)).1 (r.rating (eqb-true k at_secondary z)))))
 
-    pub row-no-fault : RowInRange l i → row_fault l i ≡ 0
+    pub row-no-fault : RowInRange l i → row_fault l i ≡ None
     unfolding row_fault fault_after
     row-no-fault r =
         rw (first-none (λ k. not (field_right l i k)) field_count 0 (λ k a b. rw (in-range-field k (row-fields r k (omega arith)))))
@@ -197,6 +197,10 @@ module _ (l : List ℕ) (i : ℕ) (h : i < rows l) where
 
 -- ---- the two tests over all rows
 
+pub not_some : (f : Option ℕ) → is_some f ≡ false → f ≡ None
+not_some None e = refl
+not_some (Some x) e = absurd (zero-not-one cc)
+
 module _ (l : List ℕ) where
   tree-passed : (f : Option ℕ) → tree_answer f ≡ done → f ≡ None
   unfolding tree_answer
@@ -217,7 +221,7 @@ module _ (l : List ℕ) where
   unfolding rows_test
   passed-in-range e i h =
       no-fault-row l i
-      (eqb-true _ _ (not-false _ (first-nothing (row_at_fault l) (rows l) 0 (fields-passed _ _ e) i (omega arith) (omega arith))))
+      (not_some _ (first-nothing (row_at_fault l) (rows l) 0 (fields-passed _ _ e) i (omega arith) (omega arith)))
 
   pub passed-feeds : rows_test l ≡ done → Feeds l
   unfolding rows_test tree_test
@@ -228,7 +232,7 @@ module _ (l : List ℕ) where
   -- no row is at fault, and none fed wrongly
   pub in-range-none : rows l ≤ rows_most → InRange l → first (row_at_fault l) 0 (rows l) ≡ None
   in-range-none few a =
-      first-none (row_at_fault l) (rows l) 0 (λ i x y. rw (eq-eqb _ _ (row-no-fault l i (omega arith) (a i (omega arith)))))
+      first-none (row_at_fault l) (rows l) 0 (λ i x y. rw (row-no-fault l i (omega arith) (a i (omega arith))))
 
   pub feeds-none : Feeds l → first (fed_wrongly l) 0 (rows l) ≡ None
   feeds-none b = first-none (fed_wrongly l) (rows l) 0 (λ i x y. rw (feeds-right l i (omega arith) (b i (omega arith))))

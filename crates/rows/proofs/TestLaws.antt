@@ -1,4 +1,5 @@
 -- Laws of the tests 2 to 5, one for each way that a test ends.
+use Rattle.answers.specs.declared.Refusal.{Refusal}
 use Rattle.answers.specs.declared.Refusal.TheVariants.{Count, Room, Field, Tree}
 use Rattle.answers.specs.Answer.{Answer, done}
 use Rattle.std.proofs.Common.{Option, Some, None, Err}
@@ -46,16 +47,16 @@ module _ (l : List ℕ) (i : ℕ) where
           (λ (b : m ≤ j). first-nothing (field_wrong l i) (field_count - m) m e j b (omega arith))
           (lt-or-le j m))
 
-  pub fault-found : (k : ℕ) → first (field_wrong l i) 0 field_count ≡ Some k → k + 1 ≡ row_fault l i
+  pub fault-found : (k : ℕ) → first (field_wrong l i) 0 field_count ≡ Some k → Some (k + 1) ≡ row_fault l i
   unfolding row_fault fault_after
   fault-found k e = rw e
 
-  pub fault-after : (x : ℕ) → first (field_wrong l i) 0 field_count ≡ None → x ≡ order_fault l i → x ≡ row_fault l i
+  pub fault-after : (x : Option ℕ) → first (field_wrong l i) 0 field_count ≡ None → x ≡ order_fault l i → x ≡ row_fault l i
   unfolding row_fault fault_after
   fault-after x e h = rw e h
 
   -- without a ratio high is within its most
-  pub plain-right : field l i at_primary ≡ 0 → (low high : ℕ) → low ≡ field l i at_low → high ≡ field l i at_high → low ≤ high → 0 ≡ order_fault l i
+  pub plain-right : field l i at_primary ≡ 0 → (low high : ℕ) → low ≡ field l i at_low → high ≡ field l i at_high → low ≤ high → None ≡ order_fault l i
   unfolding order_fault high_right
   plain-right z low high a b h =
       let e : field l i at_high * field l i at_primary ≤ 100000000 * field l i at_secondary = rw z (omega arith) in
@@ -63,38 +64,38 @@ module _ (l : List ℕ) (i : ℕ) where
 
   -- low above high; high within its most, and above it
   module _ (low high p s : ℕ) (a : low ≡ field l i at_low) (b : high ≡ field l i at_high) where
-    pub order-low : high < low → at_low + 1 ≡ order_fault l i
+    pub order-low : high < low → Some (at_low + 1) ≡ order_fault l i
     unfolding order_fault
     order-low h = rw (← a, ← b, lt-leb low high h)
 
     module _ (r : Bool) (c : p ≡ field l i at_primary) (d : s ≡ field l i at_secondary) (h : low ≤ high) (f : r ≡ high_right high p s) where
-      judged : order_fault l i ≡ cond r 0 (at_high + 1)
+      judged : order_fault l i ≡ cond r None (Some (at_high + 1))
       unfolding order_fault
       judged = rw (← a, ← b, le-leb low high h, ← c, ← d, ← f)
 
-      pub order-none : r ≡ true → 0 ≡ order_fault l i
+      pub order-none : r ≡ true → None ≡ order_fault l i
       order-none e = sym (judged ∙ rw e)
 
-      pub order-high : r ≡ false → at_high + 1 ≡ order_fault l i
+      pub order-high : r ≡ false → Some (at_high + 1) ≡ order_fault l i
       order-high e = sym (judged ∙ rw e)
 
 module _ (l : List ℕ) where
-  pub row-wrong : (i f : ℕ) → f ≡ row_fault l i → (f ≡ 0 → ⊥) → row_at_fault l i ≡ true
-  row-wrong i f q h = rw (← q, ne_eqb f 0 h)
+  pub row-wrong : (i f : ℕ) → Some f ≡ row_fault l i → row_at_fault l i ≡ true
+  row-wrong i f q = rw (← q)
 
-  pub row-right : (i f : ℕ) → f ≡ row_fault l i → f ≡ 0 → row_at_fault l i ≡ false
-  row-right i f q h = rw (← q, eq-eqb f 0 h)
+  pub row-right : (i : ℕ) → None ≡ row_fault l i → row_at_fault l i ≡ false
+  row-right i q = rw (← q)
 
-  pub fields-found : (i f : ℕ) → f ≡ row_fault l i → first (row_at_fault l) 0 (rows l) ≡ Some i → Err (Field (i + 1) f) ≡ fields_test l
+  pub fields-found : (i f : ℕ) → Some f ≡ row_fault l i → first (row_at_fault l) 0 (rows l) ≡ Some i → Err (Field (i + 1) f) ≡ fields_test l
   unfolding fields_test field_answer
-  fields-found i f q e = rw (e, q)
+  fields-found i f q e = rw (e, ← q)
 
   pub fields-none : first (row_at_fault l) 0 (rows l) ≡ None → done ≡ fields_test l
   unfolding fields_test field_answer
   fields-none e = rw e
 
   -- a field at fault is named before the feeding is looked at
-  pub rows-refused : (t : Answer) (a : Answer) → t ≡ fields_test l → t ≡ Err a → Err a ≡ rows_test l
+  pub rows-refused : (t : Answer) (a : Refusal) → t ≡ fields_test l → t ≡ Err a → Err a ≡ rows_test l
   unfolding rows_test fields_test field_answer
   rows-refused t a q e = by_cases (first (row_at_fault l) 0 (rows l)) (sym q ∙ e)
     where

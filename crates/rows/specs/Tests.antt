@@ -2,7 +2,7 @@
 -- Rows and fields are counted from 0; places in answers from 1. Definitions only.
 use Rattle.answers.specs.declared.Refusal.TheVariants.{Count, Room, Field, Tree}
 use Rattle.answers.specs.Answer.{Answer, done}
-use Rattle.std.specs.Prelude.{List, Bool, not, cond, ◌&&◌, ◌||◌, ℕ, ◌+◌, ◌-◌, ◌*◌, ◌/◌, ◌%◌, leb, ltb, eqb, Option, Some, None, Err}
+use Rattle.std.specs.Prelude.{List, Bool, not, cond, ◌&&◌, ◌||◌, ℕ, ◌+◌, ◌-◌, ◌*◌, ◌/◌, ◌%◌, leb, ltb, eqb, Option, Some, None, is_some, unwrap_or, Err}
 use Rattle.layout.specs.Counts.{field_count, column_count, list_most}
 use Rattle.fold.specs.First.{first}
 use Rattle.layout.specs.Fields.{at_feeder, at_kind, at_low, at_high, at_primary, at_secondary, in_bounds}
@@ -22,22 +22,22 @@ field_right l i k =
 unfoldable pub high_right : ℕ → ℕ → ℕ → Bool
 high_right high p s = leb (high * p) (100000000 * s)
 
--- where each field is right by itself, the field at fault, from 1, or 0: low above high is field 12, then high above its most is field 13
-unfoldable pub order_fault : List ℕ → ℕ → ℕ
+-- where each field is right by itself, the field at fault, from 1: low above high is field 12, then high above its most is field 13
+unfoldable pub order_fault : List ℕ → ℕ → Option ℕ
 order_fault l i =
     cond (leb (field l i at_low) (field l i at_high))
-    (cond (high_right (field l i at_high) (field l i at_primary) (field l i at_secondary)) 0 (at_high + 1))
-    (at_low + 1)
+    (cond (high_right (field l i at_high) (field l i at_primary) (field l i at_secondary)) None (Some (at_high + 1)))
+    (Some (at_low + 1))
 
 abbrev pub field_wrong : List ℕ → ℕ → ℕ → Bool
 field_wrong l i k = not (field_right l i k)
 
--- the first field at fault of a row, from 1, or 0: the fields' own ranges first
-unfoldable pub fault_after : ℕ → Option ℕ → ℕ
-fault_after order (Some k) = k + 1
+-- the first field at fault of a row, from 1: the fields' own ranges first
+unfoldable pub fault_after : Option ℕ → Option ℕ → Option ℕ
+fault_after order (Some k) = Some (k + 1)
 fault_after order None = order
 
-unfoldable pub row_fault : List ℕ → ℕ → ℕ
+unfoldable pub row_fault : List ℕ → ℕ → Option ℕ
 row_fault l i = fault_after (order_fault l i) (first (λ k. not (field_right l i k)) 0 field_count)
 
 -- each row but the last is fed by a row with a greater number, and by no motor; the last has 0
@@ -67,10 +67,10 @@ tree_test l = tree_answer (first (fed_wrongly l) 0 (rows l))
 
 -- 4 FIELD over all rows ascending, then 5 over all rows
 abbrev pub row_at_fault : List ℕ → ℕ → Bool
-row_at_fault l i = not (eqb (row_fault l i) 0)
+row_at_fault l i = is_some (row_fault l i)
 
 unfoldable pub field_answer : List ℕ → Answer → Option ℕ → Answer
-field_answer l next (Some i) = Err (Field (i + 1) (row_fault l i))
+field_answer l next (Some i) = Err (Field (i + 1) (unwrap_or (row_fault l i) 0))
 field_answer l next None = next
 
 unfoldable pub fields_test : List ℕ → Answer

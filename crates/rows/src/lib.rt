@@ -2,7 +2,7 @@
 // Rows and fields are counted from 0 here: index i is row number i + 1, index k is field number k + 1.
 #![tactic(auto)]
 
-ghost use Rattle.std.specs.Prelude.{◌≡◌, ℕ, ◌+◌, ◌-◌, ◌*◌, ◌<◌, ◌≤◌, length};
+ghost use Rattle.std.specs.Prelude.{◌≡◌, ℕ, ◌+◌, ◌-◌, ◌*◌, ◌<◌, ◌≤◌, length, Bool, true, false};
 ghost use Rattle.layout.specs.Counts.{field_count};
 ghost use Rattle.layout.specs.Fields.{at_primary, bounds_to};
 ghost use Rattle.fold.specs.First.{first};
@@ -11,7 +11,7 @@ ghost use Rattle.rows.specs.InRange.{FieldInRange};
 ghost use Rattle.rows.specs.Tests.{rating_right, field_right, field_wrong, high_right, order_fault, row_fault, feeds_right, fed_wrongly};
 ghost use Rattle.rows.specs.Tests.{size_test, tree_test, fields_test, rows_test};
 
-use answers::{Answer, Tested};
+use answers::Refusal;
 use layout::{
     AT_FEEDER, AT_HIGH, AT_KIND, AT_LOW, AT_PRIMARY, AT_SECONDARY, COLUMNS, FIELDS, LIST, field_at,
     field_bounds, in_bounds,
@@ -25,10 +25,7 @@ fn rating_right(q: Ratio) -> bool
     if q.primary == 0 {
         return q.secondary == 0;
     }
-    if q.secondary == 1 {
-        return true;
-    }
-    q.secondary == 5
+    q.secondary == 1 || q.secondary == 5
 }
 
 // The table goes by reference: made here, it would be made anew for each field.
@@ -61,36 +58,39 @@ fn high_right(q: Ratio, high: Secondary) -> bool
     high.0 * q.primary <= PRIMARY_MOST * q.secondary
 }
 
-// The field at fault of a row whose fields are each right by themselves, from 1; 0 where there is none.
-fn order_fault(list: &[u64], i: usize) -> u64
-    requires { (i * field_count + field_count ≤ length list.now) × ((k : ℕ) → k < field_count → FieldInRange list.now i k) }
+// The field at fault, from 1, of a row whose fields are each right by themselves. Only a row with a ratio can have high above its most.
+fn order_fault<const RATED: bool>(list: &[u64], i: usize) -> Option<u64>
+    requires in_list { i * field_count + field_count ≤ length list.now }
+    requires in_range { (k : ℕ) → k < field_count → FieldInRange list.now i k }
+    requires unrated { RATED ≡ false → field list.now i at_primary ≡ 0 }
     ensures { result ≡ order_fault list.now i }
 {
     let high = field_at(list, i, AT_HIGH);
     if high < field_at(list, i, AT_LOW) {
-        return (AT_LOW as u64) + 1;
+        return Some((AT_LOW as u64) + 1);
+    }
+    if !RATED {
+        return None;
     }
     let primary = field_at(list, i, AT_PRIMARY);
     let secondary = field_at(list, i, AT_SECONDARY);
     let q = Ratio { primary, secondary };
     if high_right(q, Secondary(high)) {
-        0
+        None
     } else {
-        (AT_HIGH as u64) + 1
+        Some((AT_HIGH as u64) + 1)
     }
 }
 
 // The first field from one on, and below another, that is not right by itself.
-fn first_wrong(list: &[u64], table: &[u64], i: usize, from: usize, to: usize) -> Option<u64>
+fn first_wrong(list: &[u64], table: &[u64], i: usize, from: usize, to: usize) -> Option<usize>
     requires { (i * field_count + field_count ≤ length list.now) × (table.now ≡ bounds_at list.now i) × (from ≤ to) × (to ≤ field_count) }
     ensures { result ≡ first (field_wrong list.now i) from (to - from) }
 {
-    let mut k = from;
-    while k < to {
+    for k in from..to {
         if !field_right(list, table, i, k) {
-            return Some(k as u64);
+            return Some(k);
         }
-        k += 1;
     }
     None
 }
@@ -98,74 +98,47 @@ fn first_wrong(list: &[u64], table: &[u64], i: usize, from: usize, to: usize) ->
 // Half of the fields: a loop over so many is compiled without a branch back, with the bounds as constants; one over all is not.
 const HALF: usize = FIELDS / 2;
 
-// Low above high, which is all that the order of its fields asks of a row without a ratio.
-fn plain_order(list: &[u64], i: usize) -> u64
-    requires { (i * field_count + field_count ≤ length list.now) × (field list.now i at_primary ≡ 0) }
-    ensures { result ≡ order_fault list.now i }
-{
-    if field_at(list, i, AT_HIGH) < field_at(list, i, AT_LOW) {
-        (AT_LOW as u64) + 1
-    } else {
-        0
-    }
-}
-
-// The first field at fault of a row without a ratio, by its own table, from 1; 0 where there is none. It has a function of its own, so that
-// it is compiled by itself: most rows have no ratio.
-fn plain_fault(list: &[u64], table: &[u64], i: usize) -> u64
-    requires { (i * field_count + field_count ≤ length list.now) × (table.now ≡ bounds_at list.now i) × (field list.now i at_primary ≡ 0) }
+// The first field at fault, from 1, of a row with a ratio or of one without, by its own table. Two functions are compiled of it: most rows
+// have no ratio.
+fn fault_by<const RATED: bool>(list: &[u64], table: &[u64], i: usize) -> Option<u64>
+    requires in_list { i * field_count + field_count ≤ length list.now }
+    requires own_table { table.now ≡ bounds_at list.now i }
+    requires unrated { RATED ≡ false → field list.now i at_primary ≡ 0 }
     ensures { result ≡ row_fault list.now i }
 {
-    match first_wrong(list, table, i, 0, HALF) {
-        Some(k) => k + 1,
-        None => match first_wrong(list, table, i, HALF, FIELDS) {
-            Some(k) => k + 1,
-            None => plain_order(list, i),
-        },
+    if let Some(k) = first_wrong(list, table, i, 0, HALF) {
+        return Some((k as u64) + 1);
     }
-}
-
-// The first field at fault of any row, by its own table, from 1; 0 where there is none.
-fn fault_by(list: &[u64], table: &[u64], i: usize) -> u64
-    requires { (i * field_count + field_count ≤ length list.now) × (table.now ≡ bounds_at list.now i) }
-    ensures { result ≡ row_fault list.now i }
-{
-    match first_wrong(list, table, i, 0, HALF) {
-        Some(k) => k + 1,
-        None => match first_wrong(list, table, i, HALF, FIELDS) {
-            Some(k) => k + 1,
-            None => order_fault(list, i),
-        },
+    if let Some(k) = first_wrong(list, table, i, HALF, FIELDS) {
+        return Some((k as u64) + 1);
     }
+    order_fault::<RATED>(list, i)
 }
 
 // The same, by the table of a row without a ratio or that of a row with one.
-fn row_fault(list: &[u64], unrated: &[u64], rated: &[u64], i: usize) -> u64
+fn row_fault(list: &[u64], unrated: &[u64], rated: &[u64], i: usize) -> Option<u64>
     requires { (i * field_count + field_count ≤ length list.now) × (unrated.now ≡ bounds_to 100000000) × (rated.now ≡ bounds_to 500000) }
     ensures { result ≡ row_fault list.now i }
 {
     if field_at(list, i, AT_PRIMARY) == 0 {
-        return plain_fault(list, unrated, i);
+        return fault_by::<false>(list, unrated, i);
     }
-    fault_by(list, rated, i)
+    fault_by::<true>(list, rated, i)
 }
 
 // 4 FIELD over all rows ascending.
-fn test_fields(list: &[u64]) -> Tested
+fn test_fields(list: &[u64]) -> Result<(), Refusal>
     ensures { result ≡ fields_test list.now }
 {
     let n = list.len() / FIELDS;
     let unrated = field_bounds(PRIMARY_MOST);
     let rated = field_bounds(SECONDARY_MOST);
-    let mut i = 0;
-    while i < n {
-        let fault = row_fault(list, &unrated, &rated, i);
-        if fault != 0 {
-            return Tested::Refused(Answer::Field((i as u64) + 1, fault));
+    for i in 0..n {
+        if let Some(field) = row_fault(list, &unrated, &rated, i) {
+            return Err(Refusal::Field((i as u64) + 1, field));
         }
-        i += 1;
     }
-    Tested::Passed
+    Ok(())
 }
 
 // A row but the last is fed by a row with a greater number that is no motor; the last by the source.
@@ -187,58 +160,43 @@ fn feeds_right(list: &[u64], i: usize) -> bool
     field_at(list, (feeder - 1) as usize, AT_KIND) != 3
 }
 
-// The first row that is fed wrongly.
-fn first_fed_wrongly(list: &[u64]) -> Option<u64>
-    ensures { result ≡ first (fed_wrongly list.now) 0 (rows list.now) }
-{
-    let n = list.len() / FIELDS;
-    let mut i = 0;
-    while i < n {
-        if !feeds_right(list, i) {
-            return Some(i as u64);
-        }
-        i += 1;
-    }
-    None
-}
-
 // 5 TREE over all rows ascending.
-fn test_tree(list: &[u64]) -> Tested
+fn test_tree(list: &[u64]) -> Result<(), Refusal>
     ensures { result ≡ tree_test list.now }
 {
-    match first_fed_wrongly(list) {
-        Some(i) => Tested::Refused(Answer::Tree(i + 1)),
-        None => Tested::Passed,
+    let n = list.len() / FIELDS;
+    for i in 0..n {
+        if !feeds_right(list, i) {
+            return Err(Refusal::Tree((i as u64) + 1));
+        }
     }
+    Ok(())
 }
 
 // 4 FIELD over all rows ascending, then 5.
-pub fn test_rows(list: &[u64]) -> Tested
+pub fn test_rows(list: &[u64]) -> Result<(), Refusal>
     ensures { result ≡ rows_test list.now }
 {
-    let fields = test_fields(list);
-    if let Tested::Refused(a) = fields {
-        return Tested::Refused(a);
-    }
+    test_fields(list)?;
     test_tree(list)
 }
 
 // 2 COUNT, then 3 ROOM, for a list and a card of so many numbers.
-pub fn test_size(len: usize, room: usize) -> Tested
+pub fn test_size(len: usize, room: usize) -> Result<(), Refusal>
     ensures { result ≡ size_test len room }
 {
     if len % FIELDS != 0 {
-        return Tested::Refused(Answer::Count);
+        return Err(Refusal::Count);
     }
     if len < FIELDS {
-        return Tested::Refused(Answer::Count);
+        return Err(Refusal::Count);
     }
     if LIST < len {
-        return Tested::Refused(Answer::Count);
+        return Err(Refusal::Count);
     }
     if room < COLUMNS * (len / FIELDS) {
-        Tested::Refused(Answer::Room)
+        Err(Refusal::Room)
     } else {
-        Tested::Passed
+        Ok(())
     }
 }

@@ -1,12 +1,9 @@
 -- `rows::first_wrong` meets its contract: the loop has passed fields that are right, so the first that is left is the first of all.
 use mathlib.Core.Path.{◌≡◌}
-use Prim.Native.Nat.{◌-◌, ◌≤◌}
+use Prim.Native.Nat.{◌-◌}
 use Rattle.fold.specs.First.{first}
 use Rattle.rows.specs.Tests.{field_wrong}
 use Rattle.rows.proofs.first_wrong.Given as goal
 
 abbrev pub invariant-loop-k : goal.invariant-loop-k
-invariant-loop-k l = (l.k ≤ l.to) × (first (field_wrong l.list l.i) l.from (l.to - l.from) ≡ first (field_wrong l.list l.i) l.k (l.to - l.k))
-
-abbrev pub decreases-loop-k : goal.decreases-loop-k
-decreases-loop-k l = l.to - l.k
+invariant-loop-k l = first (field_wrong l.list l.i) l.from (l.to - l.from) ≡ first (field_wrong l.list l.i) l.k (l.to - l.k)

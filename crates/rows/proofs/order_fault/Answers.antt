@@ -9,7 +9,7 @@ use Rattle.layout.specs.Fields.{at_high, at_primary, at_secondary}
 use Rattle.layout.specs.List.{field}
 use Rattle.sides.proofs.SidesLaws.{setting-to}
 use Rattle.rows.specs.InRange.{FieldInRange}
-use Rattle.rows.proofs.TestLaws.{order-low, order-none, order-high}
+use Rattle.rows.proofs.TestLaws.{plain-right, order-low, order-none, order-high}
 use Rattle.rows.proofs.order_fault.Goals as goal
 
 fits :
@@ -23,15 +23,18 @@ fits l i r high p s a b c =
     )
 
 pub returns-then-high-field_at : goal.returns-then-high-field_at
-returns-then-high-field_at c = order-low _ _ _ _ 0 0 c.field_at.ensures c.field_at-high.ensures c.if-high-field_at.true
+returns-then-high-field_at g c = order-low _ _ _ _ 0 0 c.field_at.ensures c.field_at-high.ensures c.if-high-field_at.true
+
+pub returns-then-not-this : goal.returns-then-not-this
+returns-then-not-this g c = plain-right _ _ (c.requires.unrated (rw c.if-not-this.true)) _ _ c.field_at.ensures c.field_at-high.ensures c.if-high-field_at.false
 
 pub high_right-requires : goal.high_right-requires
-high_right-requires c = fits _ _ c.requires.1 _ _ _ c.field_at-high.ensures c.field_at-primary.ensures c.field_at-secondary.ensures
+high_right-requires g c = fits _ _ c.requires.in_range _ _ _ c.field_at-high.ensures c.field_at-primary.ensures c.field_at-secondary.ensures
 
 pub returns-then-high_right : goal.returns-then-high_right
-returns-then-high_right c = order-none _ _ _ _ _ _ c.field_at.ensures c.field_at-high.ensures _ c.field_at-primary.ensures
+returns-then-high_right g c = order-none _ _ _ _ _ _ c.field_at.ensures c.field_at-high.ensures _ c.field_at-primary.ensures
     c.field_at-secondary.ensures c.if-high-field_at.false c.high_right.ensures c.if-high_right.true
 
 pub returns-else-high_right : goal.returns-else-high_right
-returns-else-high_right c = order-high _ _ _ _ _ _ c.field_at.ensures c.field_at-high.ensures _ c.field_at-primary.ensures
+returns-else-high_right g c = order-high _ _ _ _ _ _ c.field_at.ensures c.field_at-high.ensures _ c.field_at-primary.ensures
     c.field_at-secondary.ensures c.if-high-field_at.false c.high_right.ensures c.if-high_right.false

@@ -1,11 +1,7 @@
 -- `rows::test_fields` meets its contract: the loop has passed rows without fault, so the first at fault is the first of all.
-use Prim.Native.Nat.{◌-◌}
 use Rattle.fold.proofs.FirstLaws.{Passed}
 use Rattle.rows.specs.Tests.{row_at_fault}
 use Rattle.rows.proofs.test_fields.Given as goal
 
 abbrev pub invariant-loop-i : goal.invariant-loop-i
 invariant-loop-i l = Passed (row_at_fault l.list) l.n l.i
-
-abbrev pub decreases-loop-i : goal.decreases-loop-i
-decreases-loop-i l = l.n - l.i
