@@ -1,6 +1,6 @@
 -- A card after a row is put in: that row is the one put in, the others stay, and so does what stands past them.
 use mathlib.Core.Path.{◌≡◌, refl, sym, ap, ◌∙◌}
-use mathlib.Core.Bool.{Bool, true, false, ◌&&◌}
+use mathlib.Core.Bool.{Bool, true, ◌&&◌}
 use mathlib.Core.Logic.{◌≢◌, ◌↔◌}
 use mathlib.Core.List.{List}
 use Prim.Native.Nat.{ℕ, zero, suc, ◌+◌, ◌*◌, ◌≤◌, ◌<◌}
@@ -9,7 +9,7 @@ use lib.Dec.{eqb}
 use lib.ListN.{length, get_or, take, drop}
 use lib.Seq.{length-sets}
 use borrow.Author.Tests.{eqb-true, eq-eqb}
-use Rattle.fold.proofs.BoolLaws.{fails, and_left, and_right, and_both}
+use Rattle.fold.proofs.BoolLaws.{and_left, and_right, and_both}
 use Rattle.blocks.proofs.BlockLaws.{sets-before, sets_behind, sets-stands, sets-is, block-own, block-other, drop-sets, blocks-agree}
 use Rattle.layout.specs.declared.CardRow.{CardRow}
 use Rattle.layout.specs.Counts.{column_count}
@@ -55,19 +55,6 @@ module _ (a b : CardRow) where
         (and_both (eq-eqb a.cutoff.0 b.cutoff.0 (λ t. (e t).cutoff.0))
         (and_both (eq-eqb a.law b.law (λ t. (e t).law)) (eq-eqb a.multiplier b.multiplier (λ t. (e t).multiplier))))),
   )
-
-  pub other-card-row : (a ≡ b → ⊥) → false ≡ same_card_row a b
-  other-card-row n = sym (fails (same_card_row a b) (λ e. n (same-card-row-exactly.0 e)))
-
-  -- the multipliers are left to compare
-  pub same-but-multiplier :
-      a.pickup.0 ≡ b.pickup.0 → a.delay ≡ b.delay → a.cutoff.0 ≡ b.cutoff.0 → a.law ≡ b.law →
-      multipliers ≡ same_card_row a b
-  same-but-multiplier p d q w =
-      sym
-      (λ t.
-      eq-eqb a.pickup.0 b.pickup.0 p t &&
-      (eq-eqb a.delay b.delay d t && (eq-eqb a.cutoff.0 b.cutoff.0 q t && (eq-eqb a.law b.law w t && multipliers))))
 
 pub column-of : (c : List ℕ) (i k : ℕ) → k < column_count → column c i k ≡ get_or (columns_of (card_row_at c i)) k 0
 column-of c i zero h = refl

@@ -181,7 +181,7 @@ pub fn row_at(list: &[u64], i: usize) -> Row
 }
 
 // A card row's columns, in the card's order; the currents as they are keyed: secondary mA where the row has a ratio, primary mA where not.
-#[derive(Clone, Copy)]
+#[derive(Clone, Copy, PartialEq, Eq)]
 pub struct CardRow {
     pub pickup: Secondary,
     pub delay: u64,
@@ -223,17 +223,5 @@ pub fn put_card_row(card: &mut [u64], i: usize, k: CardRow)
 pub fn same_card_row(a: CardRow, b: CardRow) -> bool
     ensures { result ≡ same_card_row a b }
 {
-    if a.pickup.0 != b.pickup.0 {
-        return false;
-    }
-    if a.delay != b.delay {
-        return false;
-    }
-    if a.cutoff.0 != b.cutoff.0 {
-        return false;
-    }
-    if a.law != b.law {
-        return false;
-    }
-    a.multiplier == b.multiplier
+    a == b
 }

@@ -8,11 +8,11 @@ ghost use Rattle.sides.specs.Sides.{keyed, scale, in_primary, setting_most, Rate
 use grid::ceil_div;
 
 // A current on the primary side, in fifths of a mA: whole for every ratio, since the rated secondary is 1 or 5 A.
-#[derive(Clone, Copy)]
+#[derive(Clone, Copy, PartialEq, Eq)]
 pub struct Primary(pub u64);
 
 // A current on the relay's side, in mA: the number that is keyed. Where a row has no ratio that is primary mA, and its ratio is 1.
-#[derive(Clone, Copy)]
+#[derive(Clone, Copy, PartialEq, Eq)]
 pub struct Secondary(pub u64);
 
 // The rated primary and the rated secondary in A, 0 in both where a row has no ratio.
