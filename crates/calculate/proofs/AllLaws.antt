@@ -1,4 +1,5 @@
 -- The loop over all rows: the rows below i are done, and what is left of the calculation is that of the rows from i on.
+use Rattle.feeding.specs.declared.Links.{Links}
 use Rattle.settle.specs.Outcomes.{Settled}
 use Rattle.answers.specs.Answer.{Answer, done}
 use Rattle.std.proofs.Common.{Ok, Err}
@@ -67,7 +68,7 @@ module _ (l c₀ c s : List ℕ) (i : ℕ) (v : Passing l c₀ c s i) (h : i < r
   fed-done : (j : ℕ) → j < rows l → fed (view_of l) i j ≡ true → below i j ≡ true
   fed-done j b g = lt-ltb j i (fed-below l v.working.feeds i j b g)
 
-  all-ready : (links : List ℕ) → Linked l links → WorkReady l links i c s
+  all-ready : (links : List Links) → Linked l links → WorkReady l links i c s
   all-ready links linked = work-ready l (below i) every_row c s v.working i h (λ f. refl) links linked refl fed-done
 
   settles : settled_at l i c s ≡ settled (view_of l) (card_row_at c) i
@@ -170,7 +171,7 @@ module _ (l c s : List ℕ) (a : Unworked l c s) where
           (first_rows (suc n)).card (first_rows (suc n)).sums e (as-stepped (first_rows (suc n)) _ (next-step n q))
       by_cases before (Err d) q = before (sym (ap (λ (z : Step). z.tested) (no_step n d q)) ∙ e)
 
-  pub all-rows-ready : (links : List ℕ) → Linked l links → RowsReady l links 0 (rows l - 0) c s
+  pub all-rows-ready : (links : List Links) → Linked l links → RowsReady l links 0 (rows l - 0) c s
   all-rows-ready links linked =
       record {
         each =

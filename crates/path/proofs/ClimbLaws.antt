@@ -1,5 +1,6 @@
 -- One row of a climb: row i is settled by its sums, and by its fed rows as the card has them, as section 3 says, since all rows that it feeds
 -- are off its path, and so done.
+use Rattle.feeding.specs.declared.Links.{Links}
 use Rattle.settle.specs.Outcomes.{Settled}
 use Rattle.answers.specs.declared.Refusal.{Refusal}
 use Rattle.answers.specs.Answer.{Answer, done}
@@ -33,7 +34,7 @@ use Rattle.path.proofs.ReachLaws.{get-reached}
 abbrev pub off : List ℕ → ℕ → ℕ → Bool
 off l i j = not (on_path l i j)
 
-module _ (l links : List ℕ) (i : ℕ) (c s : List ℕ) (r : ClimbReady l links i c s) where
+module _ (l : List ℕ) (links : List Links) (i : ℕ) (c s : List ℕ) (r : ClimbReady l links i c s) where
   -- the feeder of a row on the path is on it
   feeder-on : 1 ≤ (row_at l i).feeder → on_path l i ((row_at l i).feeder - 1) ≡ true
   feeder-on q =

@@ -1,5 +1,6 @@
 -- The climb past a row that is settled: it ends there, being fed by the source or a feeding row that comes out as it was, or the path of
 -- its feeding row is worked out on the card with the row put in; on a refusal there the old numbers go back.
+use Rattle.feeding.specs.declared.Links.{Links}
 use Rattle.answers.specs.declared.Refusal.{Refusal}
 use Rattle.answers.specs.Answer.{Answer}
 use Rattle.std.proofs.Common.{Result, Ok}
@@ -34,7 +35,7 @@ use Rattle.rows.specs.InRange.{Feeds}
 use Rattle.path.proofs.ReachLaws.{stops-exactly, get-reached, reaches-from}
 use Rattle.path.proofs.ClimbLaws.{off, climb-works, Comes}
 
-module _ {l links : List ℕ} {i : ℕ} {c s : List ℕ} {r : ClimbReady l links i c s} {t : Answer} {c' s' : List ℕ}
+module _ {l : List ℕ} {links : List Links} {i : ℕ} {c s : List ℕ} {r : ClimbReady l links i c s} {t : Answer} {c' s' : List ℕ}
     {z : Stepped (steps l i (i + 1 - i) c s) t c' s'} (p : Comes l links i c s r t c' s' z) (feeding : Bool) where
   abbrev feeds : Feeds l
   feeds = r.working.feeds

@@ -1,4 +1,5 @@
 -- What the functions of a path ask of their callers, and the shape of their promises. Definitions only.
+use Rattle.feeding.specs.declared.Links.{Links}
 use Rattle.answers.specs.Answer.{done}
 use Rattle.answers.specs.declared.Refusal.{Refusal}
 use Rattle.std.specs.Prelude.{◌≡◌, not, List, ℕ, ◌+◌, ◌*◌, ◌<◌, ◌≤◌, length, Result, Ok, Err}
@@ -21,7 +22,7 @@ pub record RowReady (l c unrated rated : List ℕ) (j : ℕ) : Type 0 where
   pub rated-is : rated ≡ column_bounds_to 500000
 
 -- every row off the path of row i is done and none on it, the sums hold what is asked of the rows on it, and the links are the list's
-pub record ClimbReady (l links : List ℕ) (i : ℕ) (c s : List ℕ) : Type 0 where
+pub record ClimbReady (l : List ℕ) (links : List Links) (i : ℕ) (c s : List ℕ) : Type 0 where
   pub is_row : i < rows l
   pub linked : Linked l links
   pub working : Working l (λ j. not (on_path l i j)) (on_path l i) c s

@@ -1,5 +1,6 @@
 -- Rows worked out one after the other: a refusal stays what it is, and one row is its own step. The loop over them has worked out those below
 -- row i, none of which was refused.
+use Rattle.feeding.specs.declared.Links.{Links}
 use Rattle.answers.specs.Answer.{Answer, done}
 use Rattle.std.proofs.Common.{Err}
 use mathlib.Core.Path.{◌≡◌, refl, sym, ap, ◌∙◌}
@@ -40,7 +41,7 @@ module _ (l : List ℕ) (i : ℕ) (c s : List ℕ) where
   unfolding steps on_step
   one-row = let e : i + 1 - i ≡ 1 = omega arith in rw (e, add-zero)
 
-  pub one-row-ready : (links : List ℕ) → WorkReady l links i c s → RowsReady l links i (i + 1 - i) c s
+  pub one-row-ready : (links : List Links) → WorkReady l links i c s → RowsReady l links i (i + 1 - i) c s
   unfolding steps
   one-row-ready links w = record { each = λ k h p. let e : k ≡ 0 = omega arith in rw (e, add-zero) w }
 
@@ -75,7 +76,7 @@ module _ (l : List ℕ) (from to : ℕ) (c₀ s₀ c s : List ℕ) (i : ℕ) (v 
   here : from + done ≡ i
   here = omega (arith, v.begun)
 
-  pub stepping-ready : (links : List ℕ) → RowsReady l links from (to - from) c₀ s₀ → i < to → WorkReady l links i c s
+  pub stepping-ready : (links : List Links) → RowsReady l links from (to - from) c₀ s₀ → i < to → WorkReady l links i c s
   stepping-ready links a h =
       let w = a.each done (omega (arith, v.begun)) v.passed in
       rw (v.card, v.sums) (rw here at w)

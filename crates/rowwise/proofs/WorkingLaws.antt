@@ -1,5 +1,6 @@
 -- While rows are worked out, the sums hold for each row that still matters what its fed rows that are done ask of it. So a row
 -- whose fed rows are all done is settled by the sums as section 3 says, and its step keeps the sums true.
+use Rattle.feeding.specs.declared.Links.{Links}
 use Rattle.std.proofs.Common.{Ok}
 use mathlib.Core.Path.{◌≡◌, refl, sym, ap, ◌∙◌, subst}
 use mathlib.Core.Bool.{Bool, true, false, cond, ◌&&◌, ◌||◌}
@@ -92,7 +93,7 @@ module _ (l : List ℕ) (done matters : ℕ → Bool) (c s : List ℕ) (w : Work
         }
 
     pub work-ready :
-        (links : List ℕ) → Linked l links → matters i ≡ true → ((j : ℕ) → j < rows l → fed (view_of l) i j ≡ true → done j ≡ true) →
+        (links : List Links) → Linked l links → matters i ≡ true → ((j : ℕ) → j < rows l → fed (view_of l) i j ≡ true → done j ≡ true) →
         WorkReady l links i c s
     work-ready links linked m all =
         record {

@@ -1,4 +1,5 @@
 -- What one row's working out asks of its callers, and its promise. Definitions only.
+use Rattle.feeding.specs.declared.Links.{Links}
 use Rattle.answers.specs.Answer.{Answer, done}
 use Rattle.std.specs.Prelude.{◌≡◌, List, ℕ, ◌+◌, ◌-◌, ◌*◌, ◌≤◌, ◌<◌, length}
 use Rattle.layout.specs.declared.CardRow.{CardRow}
@@ -23,7 +24,7 @@ pub record PushReady (r : Row) (k : CardRow) (s : List ℕ) : Type 0 where
   pub feeder : HasFeeder r s
 
 -- row i can be worked out
-pub record WorkReady (l links : List ℕ) (i : ℕ) (c s : List ℕ) : Type 0 where
+pub record WorkReady (l : List ℕ) (links : List Links) (i : ℕ) (c s : List ℕ) : Type 0 where
   pub is_row : i < rows l
   pub in-card : i * column_count + column_count ≤ length c
   pub in-sums : i * ask_count + ask_count ≤ length s
@@ -33,7 +34,7 @@ pub record WorkReady (l links : List ℕ) (i : ℕ) (c s : List ℕ) : Type 0 wh
   pub feeder : HasFeeder (row_at l i) s
 
 -- each of n rows from i on can be worked out on the card and the sums that those before it leave
-pub record RowsReady (l links : List ℕ) (i n : ℕ) (c s : List ℕ) : Type 0 where
+pub record RowsReady (l : List ℕ) (links : List Links) (i n : ℕ) (c s : List ℕ) : Type 0 where
   pub each :
       (k : ℕ) → k < n → (steps l i k c s).tested ≡ done → WorkReady l links (i + k) (steps l i k c s).card (steps l i k c s).sums
 

@@ -161,7 +161,7 @@ module _ (v : View) (k : Settings) (i : ℕ) (p : 0 < (v.row i).step.0) where
   pub cause-one : {why why' : Cause} → CauseIs v k i why → CauseIs v k i why' → why ≡ why'
   cause-one c c' = same (sym (of-cause c) ∙ of-cause c')
     where
-      same : {why why' : Cause} → Err why ≡ Err why' → why ≡ why'
+      same : {why why' : Cause} → ◌≡◌ {A = Picked} (Err why) (Err why') → why ≡ why'
       same e = cc
 
   pub fits-exactly : (x : Secondary) → (pickup_of v k i ≡ Ok x) ↔ (Candidate v k i x × PickupMet v k i (primary_of (v.row i) x))

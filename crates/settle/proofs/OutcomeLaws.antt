@@ -65,8 +65,7 @@ unbacked-below v i r x e = first_below (unbacked v i r x) e
 -- the second stage, as it is given back
 abbrev pub by_time : Row → Secondary → Result ℕ Reason → Settled
 by_time r x (Ok t) = Ok (record { pickup = x; law = r.law; setting = t; cutoff = cutoff_of r })
-by_time r x (Err (Curve place)) = Err (Curve place)
-by_time r x (Err Delay) = Err Delay
+by_time r x (Err why) = Err why
 
 as-timed : (r : Row) (x : Secondary) (a b : Option ℕ) → timed r x a b ≡ by_time r x (timed_by a b)
 unfolding timed timed_by
@@ -145,7 +144,7 @@ pub record NoneFound (r : Row) (a : Picked) (slow least : Primary → Option ℕ
   pub none_found : least (primary_of r pickup) ≡ None
 
 module _ (r : Row) where
-  same_outcome : (o o' : Outcome) → Ok o ≡ Ok o' → o ≡ o'
+  same_outcome : (o o' : Outcome) → ◌≡◌ {A = Settled} (Ok o) (Ok o') → o ≡ o'
   same_outcome o o' e = cc
 
   module _ (slow least : Primary → Option ℕ) where

@@ -1,6 +1,7 @@
 -- [02 §3] The second stage of settling a row, one law for each way that its functions end.
+use Rattle.settle.specs.declared.Stalled.{Stalled}
 use Rattle.answers.specs.declared.Reason.TheVariants.{Curve, Delay}
-use Rattle.std.proofs.Common.{Option, Some, None, Ok, Err}
+use Rattle.std.proofs.Common.{Option, Some, None, Ok, Err, ok_or}
 use mathlib.Core.Path.{◌≡◌, refl, sym, ap, ap₂, ◌∙◌}
 use mathlib.Core.Bool.{Bool, true, false, cond, ◌&&◌}
 use Prim.Native.Nat.{ℕ, ◌+◌, ◌≤◌}
@@ -62,7 +63,7 @@ module _ (f : Row) (s : CardRow) where
 
 -- what fed row j asks of row i, by its fields r and at its pickup I
 module _ (v : View) (k : Settings) (i : ℕ) (r : Row) (I : Primary) (j : ℕ) where
-  pub stuck-fed : fed_time_of (v.row j) (k j) ≡ None → WantedIs v k i r I j (Err (j + 1))
+  pub stuck-fed : fed_time_of (v.row j) (k j) ≡ None → WantedIs v k i r I j (Err (record { 0 = j + 1 }))
   unfolding stalled_there
   stuck-fed e =
       let s = slow-means (v.row j) (k j) e in
@@ -75,7 +76,7 @@ module _ (v : View) (k : Settings) (i : ℕ) (r : Row) (I : Primary) (j : ℕ) w
     own_is : stalls r.law m ≡ stalls_at r (v.row j) I
     own_is = ap (stalls r.law) em ∙ needed-stalls r.law r (v.row j) I
 
-    pub stuck-own : stalls r.law m ≡ true → WantedIs v k i r I j (Err (i + 1))
+    pub stuck-own : stalls r.law m ≡ true → WantedIs v k i r I j (Err (record { 0 = i + 1 }))
     unfolding stalled_there
     stuck-own s = (ap (λ (b : Bool). Some (cond b (j + 1) (i + 1))) runs, λ _. sym own_is ∙ s)
 
@@ -132,9 +133,9 @@ module _ (v : View) (k : Settings) (i : ℕ) (r : Row) (I : Primary) (m : ℕ) (
 
   module _ (e : stalls r.law m ≡ false) where
     pub row-stuck :
-        (place : ℕ) → WalkIs v k i r I (Err place) → Err (Curve place) ≡ timed_by (stalled v k i r I) (least_setting r (meets_time v k i r I))
+        (s : Stalled) → WalkIs v k i r I (Err s) → Err (Curve s.0) ≡ timed_by (stalled v k i r I) (least_setting r (meets_time v k i r I))
     unfolding timed_by
-    row-stuck place w = rw (by-own false e ∙ w)
+    row-stuck s w = rw (by-own false e ∙ w)
 
     module _ (b : ℕ) (w : WalkIs v k i r I (Ok b)) where
       runs-all : stalled v k i r I ≡ None
@@ -149,14 +150,8 @@ module _ (v : View) (k : Settings) (i : ℕ) (r : Row) (I : Primary) (m : ℕ) (
           least_setting r
           (λ x. within_delays r ((ap (λ (m : ℕ). time_of r.law m x) em ∙ needed-time r.law r r I x) t) && w.1 x t)
 
-      pub row-none :
-          least_setting r (λ x. within_delays r (time_of r.law m x) && leb b x) ≡ None →
-          (Err Delay) ≡ timed_by (stalled v k i r I) (least_setting r (meets_time v k i r I))
+      pub row-timed :
+          (o : Option ℕ) → o ≡ least_setting r (λ x. within_delays r (time_of r.law m x) && leb b x) →
+          ok_or o Delay ≡ timed_by (stalled v k i r I) (least_setting r (meets_time v k i r I))
       unfolding timed_by
-      row-none g = rw (runs-all, sym setting-from ∙ g)
-
-      pub row-set :
-          (x : ℕ) → least_setting r (λ x. within_delays r (time_of r.law m x) && leb b x) ≡ Some x →
-          Ok x ≡ timed_by (stalled v k i r I) (least_setting r (meets_time v k i r I))
-      unfolding timed_by
-      row-set x g = rw (runs-all, sym setting-from ∙ g)
+      row-timed o e = rw (runs-all, ← setting-from, e)

@@ -1,24 +1,21 @@
 -- [02 §3] Going through the rows that row i feeds, ascending by their links: so far none of them has an M at most 1.000, and the settings from
 -- `from` on are those that meet D2 above each of them.
-use Rattle.std.proofs.Common.{Ok, Err}
+use Rattle.std.proofs.Common.{Ok, Err, Option, Some, None}
 use mathlib.Core.Path.{◌≡◌, refl, sym, ap, ◌∙◌}
-use mathlib.Core.Bool.{Bool, true, false, cond, not, ◌&&◌, ◌||◌}
-use mathlib.Core.Logic.{◌≢◌, ⊎_elim}
+use mathlib.Core.Bool.{Bool, true, false, not, ◌&&◌, ◌||◌}
 use mathlib.Core.List.{List}
 use Prim.Native.Nat.{ℕ, ◌+◌, ◌-◌, ◌≤◌, ◌<◌, max}
 use native.Mathlib.Nat.{sub-zero}
 use native.Mathlib.Numerals.{add-one}
 use native.Mathlib.Omega.{arith}
-use lib.Dec.{leb, eqb}
-use borrow.Author.Tests.{le-leb, eq-eqb, ne_eqb}
-use Rattle.feeding.specs.Fed.{feeds, fed_from, link_to}
-use Rattle.feeding.proofs.LinkLaws.{link-to-row, link-to-none, link-some, link-none}
-use Rattle.feeding.proofs.FedLaws.{fed_from-to, fed_from-from, fed_from-feeds, fed_from-between, first-over, first-fed-passes, first-fed-fails}
+use lib.Dec.{leb}
+use borrow.Author.Tests.{le-leb}
+use Rattle.feeding.specs.Fed.{feeds, next_fed, found_or, fed_from}
+use Rattle.feeding.proofs.FedLaws.{fed_from-from, fed_from-between, first-over, first-fed-passes, first-fed-fails}
 use Rattle.feeding.proofs.OverLaws.{every-next, every-over-passes}
 use Rattle.fold.specs.First.{first}
 use Rattle.fold.specs.Fold.{every}
-use Rattle.fold.proofs.BoolLaws.{lt-or-le}
-use Rattle.fold.proofs.FirstLaws.{first-end}
+use Rattle.fold.proofs.FirstLaws.{FirstAt, first-at, first-end}
 use Rattle.grid.proofs.RoundLaws.{max-leb}
 use Rattle.layout.specs.declared.Row.{Row}
 use Rattle.layout.specs.Card.{card_row_at}
@@ -27,11 +24,13 @@ use Rattle.layout.specs.View.{View, view_of, Settings}
 use Rattle.sides.specs.declared.Primary.{Primary}
 use Rattle.settle.specs.Conditions.{fed, fed_stalls, stalls_at, graded_above}
 use Rattle.settle.specs.Settle.{stalls_by, first_stalling, stalled_there}
+use Rattle.settle.specs.declared.Stalled.{Stalled}
 use Rattle.settle.specs.Times.{WantedIs, WalkIs}
 
--- how many rows of n are left from the one with this number on
-abbrev pub rows_left : ℕ → ℕ → ℕ
-rows_left n next = cond (eqb next 0) 0 (n + 1 - next)
+-- how many rows of n are left from the next one on
+abbrev pub rows_left : ℕ → Option ℕ → ℕ
+rows_left n (Some j) = n - j
+rows_left n None = 0
 
 module _ (l c : List ℕ) (i : ℕ) (r : Row) (I : Primary) where
   abbrev v : View
@@ -47,98 +46,87 @@ module _ (l c : List ℕ) (i : ℕ) (r : Row) (I : Primary) where
   abbrev graded : ℕ → ℕ → Bool
   graded x j = not (fed v i j) || graded_above r (v.row j) (k j) I x
 
-  -- the rows below `at` are gone through; it is the next that row i feeds, or none is left and `next` is 0
-  pub record Walking (from next : ℕ) : Type 0 where
-    pub at : ℕ
-    pub link : next ≡ link_to (rows l) at
-    pub within : at ≤ rows l
-    pub is-fed : at < rows l → feeds l i at ≡ true
-    pub left : first_stalling v k i r I ≡ first (stalls_by v k i r I) at (rows l - at)
-    pub asked : (x : ℕ) → leb from x ≡ every at (graded x)
+  -- the rows below `gone` are gone through, and `next` is the next that row i feeds
+  pub record Walking (from : ℕ) (next : Option ℕ) : Type 0 where
+    pub gone : ℕ
+    pub within : gone ≤ rows l
+    pub link : next ≡ next_fed l i gone
+    pub left : first_stalling v k i r I ≡ first (stalls_by v k i r I) gone (rows l - gone)
+    pub asked : (x : ℕ) → leb from x ≡ every gone (graded x)
 
-  -- from row a on the next is the next fed row
-  next-walking :
-      (from a next : ℕ) → a ≤ rows l → first_stalling v k i r I ≡ first (stalls_by v k i r I) a (rows l - a) →
-      ((x : ℕ) → leb from x ≡ every a (graded x)) → next ≡ link_to (rows l) (fed_from l i a) → Walking from next
-  unfolding stalls_by
-  next-walking from a next h left asked link =
-      record {
-        at = fed_from l i a;
-        link = link;
-        within = fed_from-to l i a;
-        is-fed = fed_from-feeds l i a;
-        left = left ∙ first-over l i slow a h;
-        asked =
-            λ x.
-            asked x ∙
-            sym (every-over-passes (graded x) a (fed_from l i a) (fed_from-from l i a h) (λ j lo hi. rw (fed_from-between l i a j lo hi)));
-      }
-
-  pub walk_start : (next : ℕ) → next ≡ link_to (rows l) (fed_from l i 0) → Walking 0 next
+  pub walk_start : (next : Option ℕ) → next ≡ next_fed l i 0 → Walking 0 next
   unfolding first_stalling every
-  walk_start next e = next-walking 0 0 next (omega arith) (rw sub-zero) (λ x. le-leb 0 x (omega arith)) e
+  walk_start next e =
+      record { gone = 0; within = omega arith; link = e; left = rw sub-zero; asked = λ x. le-leb 0 x (omega arith) }
 
-  module _ (from next : ℕ) (w : Walking from next) (h : next ≢ 0) where
-    abbrev j : ℕ
-    j = next - 1
+  -- what is left, and what is asked, at the next fed row or at the end
+  module _ (from : ℕ) (next : Option ℕ) (w : Walking from next) (at : ℕ) (e : fed_from l i w.gone ≡ at) where
+    left_at : first_stalling v k i r I ≡ first (stalls_by v k i r I) at (rows l - at)
+    unfolding stalls_by
+    left_at = rw (← e) (w.left ∙ first-over l i slow w.gone w.within)
 
-    here : j ≡ w.at
-    here = let n = (link-some (rows l) w.at next w.link h).1 in omega arith
+    asked_at : (x : ℕ) → leb from x ≡ every at (graded x)
+    asked_at x =
+        rw (← e)
+        (w.asked x ∙
+        sym
+        (every-over-passes (graded x) w.gone (fed_from l i w.gone) (fed_from-from l i w.gone w.within)
+        (λ j lo hi. rw (fed_from-between l i w.gone j lo hi))))
+
+  module _ (from : ℕ) (next : Option ℕ) (w : Walking from next) (j : ℕ) (h : next ≡ Some j) where
+    found : FirstAt (feeds l i) w.gone (rows l - w.gone) j
+    found = first-at (feeds l i) (rows l - w.gone) w.gone j (sym w.link ∙ h)
+
+    here : fed_from l i w.gone ≡ j
+    unfolding fed_from found_or
+    here = ap (found_or (rows l)) (sym w.link ∙ h)
 
     pub walk-row : j < rows l
-    walk-row = omega (arith, here, (link-some (rows l) w.at next w.link h).0)
+    walk-row = omega (arith, found.below, w.within)
 
     pub walk-feeds : feeds l i j ≡ true
-    walk-feeds = rw here (w.is-fed (link-some (rows l) w.at next w.link h).0)
-
-    left_here : first_stalling v k i r I ≡ first (stalls_by v k i r I) j (rows l - j)
-    left_here = rw here w.left
+    walk-feeds = found.passes
 
     -- it stops at row j
-    pub walk-stuck : (place : ℕ) → WantedIs v k i r I j (Err place) → WalkIs v k i r I (Err place)
+    pub walk-stuck : (s : Stalled) → WantedIs v k i r I j (Err s) → WalkIs v k i r I (Err s)
     unfolding stalls_by
-    walk-stuck place s =
+    walk-stuck s e =
         ap (stalled_there v k i)
-        (left_here ∙ first-fed-passes l i slow j walk-row walk-feeds (slow-at (fed_stalls (v.row j) (k j)) refl)) ∙
-        s.0
+        (left_at from next w j here ∙ first-fed-passes l i slow j walk-row walk-feeds (slow-at (fed_stalls (v.row j) (k j)) refl)) ∙
+        e.0
       where
         slow-at : (b : Bool) → fed_stalls (v.row j) (k j) ≡ b → (b || stalls_at r (v.row j) I) ≡ true
-        slow-at true e = refl
-        slow-at false e = s.1 e
+        slow-at true f = refl
+        slow-at false f = e.1 f
 
     -- or goes on behind it
     pub walk-next :
-        (b from' next' : ℕ) → WantedIs v k i r I j (Ok b) → from' ≡ max from b → next' ≡ link_to (rows l) (fed_from l i (j + 1)) →
-        Walking from' next'
+        (b from' : ℕ) (next' : Option ℕ) → WantedIs v k i r I j (Ok b) → from' ≡ max from b → next' ≡ next_fed l i (j + 1) → Walking from' next'
     unfolding stalls_by
     walk-next b from' next' s e q =
         rw e
-        (next-walking (max from b) (j + 1) next' (omega (arith, walk-row))
-        (left_here ∙ first-fed-fails l i slow j walk-row walk-feeds (rw (s.0, s.1)))
-        (λ x.
-        max-leb from b x ∙ (λ t. asked_here x t && (s.2 x ∙ counts x) t) ∙ sym (rw (add-one j) (every-next (graded x) j)))
-        q)
+        (record {
+          gone = j + 1;
+          within = omega (arith, walk-row);
+          link = q;
+          left = left_at from next w j here ∙ first-fed-fails l i slow j walk-row walk-feeds (rw (s.0, s.1));
+          asked =
+              λ x.
+              max-leb from b x ∙ (λ t. asked_at from next w j here x t && (s.2 x ∙ counts x) t) ∙ sym (rw (add-one j) (every-next (graded x) j));
+        })
       where
-        asked_here : (x : ℕ) → leb from x ≡ every j (graded x)
-        asked_here x = rw here (w.asked x)
-
         counts : (x : ℕ) → graded_above r (v.row j) (k j) I x ≡ graded x j
         counts x = sym (ap (λ (b : Bool). not b || graded_above r (v.row j) (k j) I x) walk-feeds)
 
     -- fewer rows are left then
-    pub walk-shorter : (next' : ℕ) → next' ≡ link_to (rows l) (fed_from l i (j + 1)) → rows_left (rows l) next' < rows_left (rows l) next
-    walk-shorter next' e =
-        let x = fed_from l i (j + 1) in
-        let rises = fed_from-from l i (j + 1) (omega (arith, walk-row)) in
-        rw (ne_eqb next 0 h)
-        (⊎_elim
-        (λ (b : x < rows l).
-        let p : next' ≡ x + 1 = e ∙ link-to-row (rows l) x b in
-        rw (ne_eqb next' 0 (λ q. omega arith)) (omega arith))
-        (λ (b : rows l ≤ x). rw (eq-eqb next' 0 (e ∙ link-to-none (rows l) x b)) (omega (arith, walk-row)))
-        (lt-or-le x (rows l)))
+    pub walk-shorter : (next' : Option ℕ) → next' ≡ next_fed l i (j + 1) → rows_left (rows l) next' < rows_left (rows l) next
+    walk-shorter None e = rw h (omega (arith, walk-row))
+    walk-shorter (Some x) e =
+        let f = first-at (feeds l i) (rows l - (j + 1)) (j + 1) x (sym e) in
+        rw h (omega (arith, walk-row, f.from, f.below))
 
-  pub walk_end : (from next : ℕ) → Walking from next → next ≡ 0 → WalkIs v k i r I (Ok from)
+  pub walk_end : (from : ℕ) (next : Option ℕ) → Walking from next → next ≡ None → WalkIs v k i r I (Ok from)
+  unfolding fed_from found_or
   walk_end from next w h =
-      let e : w.at ≡ rows l = omega (arith, link-none (rows l) w.at next w.link h, w.within) in
-      (w.left ∙ first-end (stalls_by v k i r I) w.at (rows l) (omega arith), λ x. w.asked x ∙ ap (λ (n : ℕ). every n (graded x)) e)
+      let e : fed_from l i w.gone ≡ rows l = ap (found_or (rows l)) (sym w.link ∙ h) in
+      (left_at from next w (rows l) e ∙ first-end (stalls_by v k i r I) (rows l) (rows l) (omega arith), asked_at from next w (rows l) e)

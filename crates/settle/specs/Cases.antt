@@ -227,7 +227,7 @@ conditions =
 -- row n settled: 0 and its card row, or the numbers of its refusal
 abbrev outcome : ℕ → Settled → List ℕ
 outcome n (Ok o) = 0 ∷ columns_of (shown o)
-outcome n (Err why) = given_by (Unsettled n why)
+outcome n (Err why) = given_by (Err (Unsettled n why))
 
 -- two lists have the same numbers
 unfoldable pub same : List ℕ → List ℕ → Bool

@@ -1,4 +1,5 @@
 -- What settling a row of a list asks of its callers. Definitions only.
+use Rattle.feeding.specs.declared.Links.{Links}
 use Rattle.std.specs.Prelude.{◌≡◌, true, List, ℕ, ◌+◌, ◌*◌, ◌≤◌, ◌<◌, length}
 use Rattle.layout.specs.declared.Row.{Row}
 use Rattle.layout.specs.List.{rows, row_at}
@@ -18,7 +19,7 @@ pub record Listed (l : List ℕ) (i : ℕ) (r : Row) : Type 0 where
   pub bounded : Bounded r
 
 -- the rows that row i feeds can be gone through, and their settings on the card are such that nothing overflows
-pub record FedReady (l links c : List ℕ) (i : ℕ) : Type 0 where
+pub record FedReady (l : List ℕ) (links : List Links) (c : List ℕ) (i : ℕ) : Type 0 where
   pub linked : Linked l links
   pub card-room : rows l * column_count ≤ length c
   pub settings-to : (j : ℕ) → j < rows l → fed (view_of l) i j ≡ true → CardBounded (row_at l j) (card_row_at c j)

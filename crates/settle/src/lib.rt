@@ -4,13 +4,14 @@
 
 mod times;
 
-ghost use Rattle.std.specs.Prelude.{◌≡◌, ℕ, ◌-◌, ◌≤◌, ◌<◌, leb};
+ghost use Rattle.std.specs.Prelude.{◌≡◌, ℕ, ◌≤◌, ◌<◌, leb};
 ghost use Rattle.grid.specs.Grid.{least_on};
 ghost use Rattle.layout.specs.Card.{card_row_at};
 ghost use Rattle.layout.specs.List.{rows};
 ghost use Rattle.layout.specs.Range.{Bounded};
 ghost use Rattle.layout.specs.View.{view_of};
 ghost use Rattle.sides.specs.Sides.{keyed, setting_most};
+ghost use Rattle.answers.specs.declared.Reason.TheVariants.{Curve};
 ghost use Rattle.settle.specs.Conditions.{primary_of, sees_own_zone, backs_up, stays_clear, sees_near};
 ghost use Rattle.settle.specs.Fed.{lower_by, backs_up_all, unbacked_by, picked_by, settled_by, shortfall, asked};
 ghost use Rattle.settle.specs.Fed.{PrimaryBounded, FedBounded, CardBounded};
@@ -18,6 +19,7 @@ ghost use Rattle.settle.specs.Ready.{Listed, FedReady};
 ghost use Rattle.settle.specs.Settle.{unbacked, first_unbacked, judged, cutoff_of, printed, shown};
 
 use answers::{Cause, Reason};
+use feeding::Links;
 use grid::{greater, least_on};
 use layout::{CardRow, FIELDS, Row, row_at};
 use sides::{Primary, Secondary, in_primary, least_keyed};
@@ -39,39 +41,16 @@ pub struct Outcome {
     pub cutoff: Cutoff,
 }
 
-// A row's pickup, or why no available one fits.
+// The M of the row of this number is at most 1.000.
 #[derive(Clone, Copy)]
-pub enum Picked {
-    Fits(Secondary),
-    Unfit(Cause),
-}
+pub struct Stalled(pub u64);
 
-#[derive(Clone, Copy)]
-pub enum Settled {
-    Set(Outcome),
-    Unset(Reason),
-}
+impl From<Stalled> for Reason {
+    ghost from_gives = { λ s why. why ≡ Curve s.0 };
 
-// A row's second stage: its setting; the number of the row whose M is at most 1.000; or neither, where no setting fits.
-#[derive(Clone, Copy)]
-pub enum Timed {
-    Setting(u64),
-    Stalled(u64),
-    NoSetting,
-}
-
-// A fed row's time at its own near end, or none where its M is at most 1.000.
-#[derive(Clone, Copy)]
-pub enum FedTime {
-    Takes(u64),
-    Slow,
-}
-
-// What one or all of the fed rows ask of a row's setting: it is from so much on; or the number of a row whose M is at most 1.000.
-#[derive(Clone, Copy)]
-pub enum Wanted {
-    From(u64),
-    Stuck(u64),
+    fn from(s: Stalled) -> Reason {
+        Reason::Curve(s.0)
+    }
 }
 
 // What the rows that a row feeds ask of its pickup: the sum of their loads, and over them the greatest excess of a pickup over its
@@ -86,12 +65,6 @@ pub struct Fed {
 // 1.2 times the greatest product of a primary current, in fifths of a mA, and volts that a list in range holds.
 pub const REACH: u64 = 300000000000000;
 
-fn over(a: u64, b: u64) -> u64
-    ensures { result ≡ a - b }
-{
-    if a <= b { 0 } else { a - b }
-}
-
 // The least pickup that P1 and P2 allow, available or not.
 fn pickup_from(r: Row, f: Fed) -> Secondary
     requires { Bounded r × FedBounded f }
@@ -99,7 +72,7 @@ fn pickup_from(r: Row, f: Fed) -> Secondary
 {
     let q = r.ratio;
     let returns = least_keyed(q, 11 * r.selfstart * r.work.0, 10 * r.returnfactor);
-    let asked = over(f.excess + f.load, REACH);
+    let asked = (f.excess + f.load).saturating_sub(REACH);
     let clears = least_keyed(q, 11 * asked, 10 * r.volts);
     Secondary(greater(returns.0, clears.0))
 }
@@ -150,47 +123,46 @@ fn is_unbacked(list: &[u64], i: usize, r: Row, x: Primary, j: usize) -> bool
     !backs_up(r, f, x)
 }
 
-fn first_unbacked(list: &[u64], i: usize, r: Row, x: Primary) -> Option<u64>
+// The first such row.
+fn first_unbacked(list: &[u64], i: usize, r: Row, x: Primary) -> Option<usize>
     requires { Listed list.now i r × PrimaryBounded x }
     ensures { result ≡ first_unbacked (view_of list.now) i r x }
 {
     let n = list.len() / FIELDS;
-    let mut j = 0;
-    while j < n {
+    for j in 0..n {
         if is_unbacked(list, i, r, x, j) {
-            return Some(j as u64);
+            return Some(j);
         }
-        j += 1;
     }
     None
 }
 
 // P3, then P4, of a pickup that meets P1 and P2. The fed rows are gone through only where their numbers say that P4 fails for one of
 // them, and then one is found: the row is refused.
-fn judge(list: &[u64], i: usize, r: Row, f: Fed, x: Secondary) -> Picked
+fn judge(list: &[u64], i: usize, r: Row, f: Fed, x: Secondary) -> Result<Secondary, Cause>
     requires { Listed list.now i r × FedBounded f × (x.0 ≤ setting_most r.ratio.primary) }
     ensures { result ≡ judged r x (unbacked_by (view_of list.now) i r f (primary_of r x)) }
 {
     let pickup = in_primary(r.ratio, x);
     if !sees_own_zone(r, pickup) {
-        return Picked::Unfit(Cause::OwnZone);
+        return Err(Cause::OwnZone);
     }
     if backs_up_all(r, f, pickup) {
-        return Picked::Fits(x);
+        return Ok(x);
     }
     match first_unbacked(list, i, r, pickup) {
-        Some(j) => Picked::Unfit(Cause::Backup(j + 1)),
-        None => Picked::Fits(x),
+        Some(j) => Err(Cause::Backup((j as u64) + 1)),
+        None => Ok(x),
     }
 }
 
 // The least available pickup that meets P1 and P2, if it meets P3 and P4; else the cause.
-fn pick(list: &[u64], i: usize, r: Row, f: Fed) -> Picked
+fn pick(list: &[u64], i: usize, r: Row, f: Fed) -> Result<Secondary, Cause>
     requires { Listed list.now i r × FedBounded f }
     ensures { result ≡ picked_by (view_of list.now) i r f }
 {
     match least_offered(r, pickup_from(r, f)) {
-        None => Picked::Unfit(Cause::Range),
+        None => Err(Cause::Range),
         Some(x) => judge(list, i, r, f, Secondary(x)),
     }
 }
@@ -227,30 +199,25 @@ fn cutoff_at(r: Row) -> Cutoff
 }
 
 // The least settings of row i, whose fields are r, or the refusal: RANGE, OWN ZONE or BACKUP before CURVE, and CURVE before DELAY.
-pub fn settle(list: &[u64], links: &[u8], card: &[u64], i: usize, r: Row, f: Fed) -> Settled
+pub fn settle(
+    list: &[u64],
+    links: &[Links],
+    card: &[u64],
+    i: usize,
+    r: Row,
+    f: Fed,
+) -> Result<Outcome, Reason>
     requires { Listed list.now i r × FedBounded f × FedReady list.now links.now card.now i }
     ensures { result ≡ settled_by (view_of list.now) (card_row_at card.now) i r f }
 {
-    match pick(list, i, r, f) {
-        Picked::Unfit(why) => Settled::Unset(Reason::Pickup(why)),
-        Picked::Fits(pickup) => match time_row(
-            list,
-            links,
-            card,
-            i,
-            r,
-            in_primary(r.ratio, pickup),
-        ) {
-            Timed::Stalled(place) => Settled::Unset(Reason::Curve(place)),
-            Timed::NoSetting => Settled::Unset(Reason::Delay),
-            Timed::Setting(setting) => Settled::Set(Outcome {
-                pickup,
-                law: r.law,
-                setting,
-                cutoff: cutoff_at(r),
-            }),
-        },
-    }
+    let pickup = pick(list, i, r, f)?;
+    let setting = time_row(list, links, card, i, r, in_primary(r.ratio, pickup))?;
+    Ok(Outcome {
+        pickup,
+        law: r.law,
+        setting,
+        cutoff: cutoff_at(r),
+    })
 }
 
 // The number that the card shows for a cutoff.

@@ -11,9 +11,10 @@ ghost use Rattle.settle.specs.Ready.{Listed, FedReady, AskReady};
 ghost use Rattle.settle.specs.Settle.{stalled, meets_time, tried_from, tried_to, least_setting};
 ghost use Rattle.settle.specs.Times.{needed_multiple, fed_time_of, timed_by, WantedIs, WalkIs};
 
-use super::{FedTime, Timed, Wanted};
+use super::Stalled;
+use answers::Reason;
 use curve::{least_setting, multiple, setting_from, setting_to, stalls, time_of};
-use feeding::{first_fed, next_fed};
+use feeding::{Links, first_fed, next_fed};
 use grid::{greater, least_on};
 use layout::{AT_DEVICE, CardRow, Row, card_row_at, field_at, row_at};
 use sides::{Primary, in_primary};
@@ -53,34 +54,40 @@ fn setting_of(s: CardRow) -> u64
     if s.law == 0 { s.delay } else { s.multiplier }
 }
 
-// A fed row's time at its own near end, by its card row.
-fn fed_time(f: Row, s: CardRow) -> FedTime
+// A fed row's time at its own near end, by its card row; none where its M is at most 1.000.
+fn fed_time(f: Row, s: CardRow) -> Option<u64>
     requires { Bounded f × CardBounded f s }
     ensures { result ≡ fed_time_of f s }
 {
     let m = needed_multiple(s.law, f, f, in_primary(f.ratio, s.pickup));
     if stalls(s.law, m) {
-        return FedTime::Slow;
+        return None;
     }
-    FedTime::Takes(time_of(s.law, m, setting_of(s)))
+    Some(time_of(s.law, m, setting_of(s)))
 }
 
-// What fed row j asks of the setting of row i, whose fields are r, at its pickup, where either is a curve row.
-fn ask_curve(list: &[u64], card: &[u64], i: usize, r: Row, pickup: Primary, j: usize) -> Wanted
+// What fed row j asks of the setting of row i, whose fields are r, at its pickup, where either is a curve row: it is from so much on, or an
+// M there is at most 1.000.
+fn ask_curve(
+    list: &[u64],
+    card: &[u64],
+    i: usize,
+    r: Row,
+    pickup: Primary,
+    j: usize,
+) -> Result<u64, Stalled>
     requires { AskReady list.now card.now i r pickup j }
     ensures { WantedIs (view_of list.now) (card_row_at card.now) i r pickup j result }
 {
     let f = row_at(list, j);
-    match fed_time(f, card_row_at(card, j)) {
-        FedTime::Slow => Wanted::Stuck((j as u64) + 1),
-        FedTime::Takes(t) => {
-            let m = needed_multiple(r.law, r, f, pickup);
-            if stalls(r.law, m) {
-                return Wanted::Stuck((i as u64) + 1);
-            }
-            Wanted::From(least_setting(r.law, m, t + margin_between(r.device, f.device)))
-        }
+    let Some(t) = fed_time(f, card_row_at(card, j)) else {
+        return Err(Stalled((j as u64) + 1));
+    };
+    let m = needed_multiple(r.law, r, f, pickup);
+    if stalls(r.law, m) {
+        return Err(Stalled((i as u64) + 1));
     }
+    Ok(least_setting(r.law, m, t + margin_between(r.device, f.device)))
 }
 
 // Neither row is a curve row.
@@ -91,37 +98,44 @@ fn both_definite(a: u64, b: u64) -> bool
 }
 
 // The same for any two rows. Between definite ones no M is needed: most lists have no others, and there little is read.
-fn ask(list: &[u64], card: &[u64], i: usize, r: Row, pickup: Primary, j: usize) -> Wanted
+fn ask(
+    list: &[u64],
+    card: &[u64],
+    i: usize,
+    r: Row,
+    pickup: Primary,
+    j: usize,
+) -> Result<u64, Stalled>
     requires { AskReady list.now card.now i r pickup j }
     ensures { WantedIs (view_of list.now) (card_row_at card.now) i r pickup j result }
 {
     let s = card_row_at(card, j);
     if both_definite(r.law, s.law) {
-        return Wanted::From(s.delay + margin_between(r.device, field_at(list, j, AT_DEVICE)));
+        return Ok(s.delay + margin_between(r.device, field_at(list, j, AT_DEVICE)));
     }
     ask_curve(list, card, i, r, pickup, j)
 }
 
 // What all the rows that row i feeds ask, gone through in ascending order.
-fn walk(list: &[u64], links: &[u8], card: &[u64], i: usize, r: Row, pickup: Primary) -> Wanted
+fn walk(
+    list: &[u64],
+    links: &[Links],
+    card: &[u64],
+    i: usize,
+    r: Row,
+    pickup: Primary,
+) -> Result<u64, Stalled>
     requires { Listed list.now i r × PrimaryBounded pickup × FedReady list.now links.now card.now i }
     ensures { WalkIs (view_of list.now) (card_row_at card.now) i r pickup result }
 {
     let mut from = 0;
     let mut next = first_fed(list, links, i);
-    while next != 0 {
-        let j = next - 1;
-        match ask(list, card, i, r, pickup, j) {
-            Wanted::Stuck(place) => {
-                return Wanted::Stuck(place);
-            }
-            Wanted::From(b) => {
-                from = greater(from, b);
-                next = next_fed(list, links, j);
-            }
-        }
+    while let Some(j) = next {
+        let b = ask(list, card, i, r, pickup, j)?;
+        from = greater(from, b);
+        next = next_fed(list, links, j);
     }
-    Wanted::From(from)
+    Ok(from)
 }
 
 // The least and the greatest setting that are tried.
@@ -166,25 +180,20 @@ fn least_time(r: Row, m: u64, from: u64) -> Option<u64>
 // The least setting of row i, whose fields are r, at its pickup; CURVE before DELAY.
 pub fn time_row(
     list: &[u64],
-    links: &[u8],
+    links: &[Links],
     card: &[u64],
     i: usize,
     r: Row,
     pickup: Primary,
-) -> Timed
+) -> Result<u64, Reason>
     requires { Listed list.now i r × PrimaryBounded pickup × FedReady list.now links.now card.now i }
     ensures { result ≡ timed_by (stalled (view_of list.now) (card_row_at card.now) i r pickup)
         (least_setting r (meets_time (view_of list.now) (card_row_at card.now) i r pickup)) }
 {
     let m = needed_multiple(r.law, r, r, pickup);
     if stalls(r.law, m) {
-        return Timed::Stalled((i as u64) + 1);
+        return Err(Reason::Curve((i as u64) + 1));
     }
-    match walk(list, links, card, i, r, pickup) {
-        Wanted::Stuck(place) => Timed::Stalled(place),
-        Wanted::From(from) => match least_time(r, m, from) {
-            None => Timed::NoSetting,
-            Some(x) => Timed::Setting(x),
-        },
-    }
+    let from = walk(list, links, card, i, r, pickup)?;
+    least_time(r, m, from).ok_or(Reason::Delay)
 }

@@ -18,12 +18,6 @@ returns-then-is_unbacked c = sym
     (passed-found _ c.loop-j.invariant c.loop-j-test.true
     (sym c.is_unbacked.ensures ∙ c.if-is_unbacked.true))
 
-pub overflow_add-j : goal.overflow_add-j
-overflow_add-j c = omega arith
-
-pub loop-j-smaller : goal.loop-j-smaller
-loop-j-smaller c = omega arith
-
 pub loop-j-preserved : goal.loop-j-preserved
 loop-j-preserved c = passed-more _ c.loop-j.invariant c.loop-j-test.true
     (sym c.is_unbacked.ensures ∙ c.if-is_unbacked.false)

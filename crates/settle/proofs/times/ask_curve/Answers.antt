@@ -74,12 +74,12 @@ least_setting-requires c = let to = takes-to _ _ _ c.requires.settings-to
       sym c.stalls.ensures ∙ c.if-stalls.false,
     )
 
-pub returns-in-None : goal.returns-in-None
-returns-in-None c = stuck-fed _ _ _ _ _ _
-    (time-read _ _ _ _ c.row_at-f.ensures c.card_row_at.ensures _ _ c.fed_time.ensures c.in-None.is)
+pub returns-in_default : goal.returns-in_default
+returns-in_default c = stuck-fed _ _ _ _ _ _
+    (time-read _ _ _ _ c.row_at-f.ensures c.card_row_at.ensures _ _ c.fed_time.ensures c.in_default.is)
 
-pub returns-else-stalls : goal.returns-else-stalls
-returns-else-stalls c = let s = c.args in
+pub returns : goal.returns
+returns c = let s = c.args in
     wanted-from (view_of s.list.now) (card_row_at s.card.now) s.i s.r s.pickup s.j _ _
     (time-read _ _ _ _ c.row_at-f.ensures c.card_row_at.ensures _ _ c.fed_time.ensures c.in-Some.is)
     (multiple-read _ _ _ _ _ _ c.row_at-f.ensures c.needed_multiple-m.ensures) _ _
