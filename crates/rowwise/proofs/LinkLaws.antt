@@ -1,13 +1,14 @@
 -- The feeders of a list that feeds as section 2 says are rows of it, so its rows can be linked.
+use Rattle.feeding.specs.declared.Links.{Links}
 use mathlib.Core.Path.{◌≡◌}
 use mathlib.Core.Logic.{⊎_elim}
 use mathlib.Core.List.{List}
-use Prim.Native.Nat.{ℕ, ◌+◌, ◌*◌, ◌≤◌}
+use Prim.Native.Nat.{ℕ, ◌+◌, ◌≤◌}
 use native.Mathlib.Omega.{arith}
 use lib.Dec.{eqb}
-use lib.ListN.{length, get_or}
+use lib.ListN.{length}
 use borrow.Author.Tests.{eqb-true, eqb-false}
-use Rattle.feeding.specs.Fed.{link_count, LinkReady}
+use Rattle.feeding.specs.Fed.{unlinked, link_at, LinkReady}
 use Rattle.fold.proofs.BoolLaws.{passes-or-fails}
 use Rattle.layout.specs.Counts.{rows_most}
 use Rattle.layout.specs.List.{rows}
@@ -15,7 +16,7 @@ use Rattle.rows.specs.InRange.{Feeds}
 use Rattle.rows.proofs.InRangeLaws.{feeder-above, feeder-of-last}
 
 pub link-ready :
-    (l links : List ℕ) → Feeds l → rows l ≤ rows_most → rows_most * link_count ≤ length links → ((x : ℕ) → get_or links x 0 ≡ 0) → LinkReady l links
+    (l : List ℕ) (links : List Links) → Feeds l → rows l ≤ rows_most → rows_most ≤ length links → ((i : ℕ) → link_at links i ≡ unlinked) → LinkReady l links
 link-ready l links f few room clear =
     record {
       rows-to = few;

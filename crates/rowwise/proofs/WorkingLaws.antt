@@ -1,5 +1,7 @@
 -- While rows are worked out, the sums hold for each row that still matters what its fed rows that are done ask of it. So a row
 -- whose fed rows are all done is settled by the sums as section 3 says, and its step keeps the sums true.
+use lib.Seq.{get_or-set_same, get_or-set_other}
+use lib.ListN.{set}
 use Rattle.feeding.specs.declared.Links.{Links}
 use Rattle.std.proofs.Common.{Ok}
 use mathlib.Core.Path.{◌≡◌, refl, sym, ap, ◌∙◌, subst}
@@ -30,10 +32,10 @@ use Rattle.settle.proofs.FedLaws.{settled-by}
 use Rattle.settle.proofs.OutcomeLaws.{set-bounded}
 use Rattle.settle.proofs.PickupLaws.{load-bounded, found-fits}
 use Rattle.rowwise.specs.Ready.{HasFeeder, WorkReady}
-use Rattle.rowwise.specs.Sums.{fed_at, put_fed, joined, pushed, settled_at}
+use Rattle.rowwise.specs.Sums.{nothing, fed_at, joined, pushed, settled_at}
 use Rattle.rowwise.specs.Working.{Working, gathered_by}
 use Rattle.rowwise.proofs.StepLaws.{pushed-source, pushed-feeder, pushed-length}
-use Rattle.rowwise.proofs.SumsLaws.{same-fed, put_fed-own, put_fed-other}
+use Rattle.rowwise.proofs.SumsLaws.{same-fed}
 
 -- a number that counts only sometimes is at most what it is when it counts
 counted-to : (b : Bool) (x m : ℕ) → (b ≡ true → x ≤ m) → cond b x 0 ≤ m
@@ -49,7 +51,7 @@ counted-all false false x h = refl
 shortfall-to : (r : Row) → shortfall r ≤ reach
 shortfall-to r = counted-to (eqb r.backed 1) (reach - r.far.0 * r.volts) reach (λ _. omega arith)
 
-module _ (l : List ℕ) (done matters : ℕ → Bool) (c s : List ℕ) (w : Working l done matters c s) where
+module _ (l : List ℕ) (done matters : ℕ → Bool) (c : List ℕ) (s : List Fed) (w : Working l done matters c s) where
   excess-to : (j : ℕ) → j < rows l → done j ≡ true → excess (row_at l j) (card_row_at c j) ≤ 25300000000000000
   excess-to j b g =
       let q = (w.in-range j b).bounded in
@@ -182,17 +184,17 @@ module _ (l : List ℕ) (done matters : ℕ → Bool) (c s : List ℕ) (w : Work
       unfolding before
       is-before = w.summed x b m
 
-      at-feeder : (r.feeder ≡ 0 → ⊥) → fed (view_of l) x i ≡ true → fed_at (put_fed s (r.feeder - 1) for-feeder) x ≡ after x
+      at-feeder : (r.feeder ≡ 0 → ⊥) → fed (view_of l) x i ≡ true → fed_at (set s (r.feeder - 1) for-feeder) x ≡ after x
       unfolding r for-feeder
       at-feeder n0 g =
           let e : r.feeder - 1 ≡ x = omega (arith, eqb-true r.feeder (x + 1) g) in
           rw e
-          (put_fed-own s x _ (omega (arith, w.sums-room)) ∙ ap (λ (f : Fed). joined f asks) is-before ∙ gather-fed x g)
+          (get_or-set_same s x (joined (fed_at s x) asks) nothing (omega (arith, w.sums-room)) ∙ ap (λ (f : Fed). joined f asks) is-before ∙ gather-fed x g)
 
-      elsewhere : (r.feeder ≡ 0 → ⊥) → fed (view_of l) x i ≡ false → fed_at (put_fed s (r.feeder - 1) for-feeder) x ≡ after x
+      elsewhere : (r.feeder ≡ 0 → ⊥) → fed (view_of l) x i ≡ false → fed_at (set s (r.feeder - 1) for-feeder) x ≡ after x
       unfolding r
       elsewhere n0 g =
-          put_fed-other s (r.feeder - 1) _ x (λ e. eqb-false r.feeder (x + 1) g (omega arith)) ∙ is-before ∙ gather-unfed x g
+          get_or-set_other s (r.feeder - 1) x for-feeder nothing (λ e. eqb-false r.feeder (x + 1) g (omega arith)) ∙ is-before ∙ gather-unfed x g
 
       summed-next : fed_at (pushed r k s) x ≡ after x
       unfolding r asks for-feeder
@@ -200,11 +202,11 @@ module _ (l : List ℕ) (done matters : ℕ → Bool) (c s : List ℕ) (w : Work
           ⊎_elim
           (λ (z : eqb r.feeder 0 ≡ true).
           let f0 = eqb-true r.feeder 0 z in
-          ap (λ (s : List ℕ). fed_at s x) (sym (pushed-source r k s f0)) ∙ is-before ∙
+          ap (λ (s : List Fed). fed_at s x) (sym (pushed-source r k s f0)) ∙ is-before ∙
           gather-unfed x (ne_eqb r.feeder (x + 1) (λ e. omega arith)))
           (λ (z : eqb r.feeder 0 ≡ false).
           let n0 = eqb-false r.feeder 0 z in
-          ap (λ (s : List ℕ). fed_at s x)
+          ap (λ (s : List Fed). fed_at s x)
           (sym (pushed-feeder r k s (fed_at s (r.feeder - 1)) asks for-feeder n0 refl refl refl)) ∙
           ⊎_elim (at-feeder n0) (elsewhere n0) (passes-or-fails (eqb r.feeder (x + 1))))
           (passes-or-fails (eqb r.feeder 0))

@@ -1,6 +1,7 @@
 -- [01 §4] Rows worked out one after the other on a card: each at its least settings, the rows below as the card has them,
 -- or refused for its own reason. Definitions only.
 use Rattle.settle.specs.Outcomes.{Settled}
+use Rattle.answers.specs.declared.Refusal.{Refusal}
 use Rattle.answers.specs.declared.Refusal.TheVariants.{Unsettled}
 use Rattle.answers.specs.Answer.{Answer}
 use Rattle.std.specs.Prelude.{List, [], ◌∷◌, ℕ, zero, suc, ◌+◌, Ok, Err}
@@ -12,7 +13,7 @@ use Rattle.settle.specs.Settle.{shown, settled}
 -- how working out ends: with the card, or with a refusal
 pub data Worked : Type 0 where
   finished : List ℕ → Worked
-  refused : Answer → Worked
+  refused : Refusal → Worked
 
 -- a test passed goes on with what is next
 unfoldable pub on_passed : Answer → Worked → Worked

@@ -62,6 +62,13 @@ pub struct Fed {
     pub shortfall: u64,
 }
 
+// What no fed row asks.
+pub const NOTHING: Fed = Fed {
+    load: 0,
+    excess: 0,
+    shortfall: 0,
+};
+
 // 1.2 times the greatest product of a primary current, in fifths of a mA, and volts that a list in range holds.
 pub const REACH: u64 = 300000000000000;
 
