@@ -1,4 +1,6 @@
 -- The loop over all rows: the rows below i are done, and what is left of the calculation is that of the rows from i on.
+use Rattle.answers.specs.declared.Refusal.{Refusal}
+use Rattle.settle.specs.declared.Fed.{Fed}
 use Rattle.feeding.specs.declared.Links.{Links}
 use Rattle.settle.specs.Outcomes.{Settled}
 use Rattle.answers.specs.Answer.{Answer, done}
@@ -18,7 +20,7 @@ use borrow.Author.Tests.{lt-ltb, le-ltb, ltb-true, eqb-true, eqb-false}
 use Rattle.fold.proofs.BoolLaws.{passes-or-fails, same_test}
 use Rattle.layout.specs.declared.CardRow.{CardRow}
 use Rattle.layout.specs.Card.{card_row_at, put_card_row}
-use Rattle.layout.specs.List.{rows, row_at}
+use Rattle.layout.specs.List.{rows}
 use Rattle.layout.specs.View.{view_of}
 use Rattle.feeding.specs.Fed.{Linked}
 use Rattle.settle.specs.Conditions.{fed}
@@ -38,12 +40,12 @@ use Rattle.calculate.specs.Whole.{calculation, worked_as}
 abbrev pub below : ℕ → ℕ → Bool
 below i j = ltb j i
 
-pub record Passing (l c₀ c s : List ℕ) (i : ℕ) : Type 0 where
+pub record Passing (l c₀ c : List ℕ) (s : List Fed) (i : ℕ) : Type 0 where
   pub within : i ≤ rows l
   pub working : Working l (below i) every_row c s
   pub left : work_out l (up_from i (rows l - i)) c ≡ calculation l c₀
 
-all_start : (l c s : List ℕ) → Unworked l c s → Passing l c c s 0
+all_start : (l c : List ℕ) (s : List Fed) → Unworked l c s → Passing l c c s 0
 unfolding calculation
 all_start l c s a =
     record {
@@ -64,7 +66,7 @@ below_next i j =
     (passes-or-fails (eqb j i))
 
 -- row i is the next to be worked out
-module _ (l c₀ c s : List ℕ) (i : ℕ) (v : Passing l c₀ c s i) (h : i < rows l) where
+module _ (l c₀ c : List ℕ) (s : List Fed) (i : ℕ) (v : Passing l c₀ c s i) (h : i < rows l) where
   fed-done : (j : ℕ) → j < rows l → fed (view_of l) i j ≡ true → below i j ≡ true
   fed-done j b g = lt-ltb j i (fed-below l v.working.feeds i j b g)
 
@@ -89,7 +91,7 @@ module _ (l c₀ c s : List ℕ) (i : ℕ) (v : Passing l c₀ c s i) (h : i < r
       (ap (λ (s : Settled). on_settled i s (λ k. work_out l (up_from (suc i) (rows l - suc i)) (put_card_row c i k))) (sym settles))
 
   all-refused :
-      (t : Answer) (a : Answer) (c' s' : List ℕ) → t ≡ Err a → Stepped (step l i c s) t c' s' → calculation l c₀ ≡ worked_as
+      (t : Answer) (a : Refusal) (c' : List ℕ) (s' : List Fed) → t ≡ Err a → Stepped (step l i c s) t c' s' → calculation l c₀ ≡ worked_as
       (Err a) c'
   unfolding step worked_as step_by on_settled
   all-refused t a c' s' e z = goes_on ∙ by_cases (settled_at l i c s) (sym e ∙ z.answer)
@@ -98,7 +100,7 @@ module _ (l c₀ c s : List ℕ) (i : ℕ) (v : Passing l c₀ c s i) (h : i < r
       by_cases (Ok o) e = absurd (never-passed (sym e))
       by_cases (Err why) e = ap refused (same_answer (sym e))
 
-  all-next : (t : Answer) (c' s' : List ℕ) → t ≡ done → Stepped (step l i c s) t c' s' → Passing l c₀ c' s' (i + 1)
+  all-next : (t : Answer) (c' : List ℕ) (s' : List Fed) → t ≡ done → Stepped (step l i c s) t c' s' → Passing l c₀ c' s' (i + 1)
   unfolding step step_by on_settled
   all-next t c' s' p z = by_cases (settled_at l i c s) refl z
     where
@@ -115,14 +117,14 @@ module _ (l c₀ c s : List ℕ) (i : ℕ) (v : Passing l c₀ c s i) (h : i < r
           })
       by_cases (Err why) e z = absurd (never-passed (sym p ∙ z.answer))
 
-all_end : (l c₀ c s : List ℕ) (i : ℕ) → Passing l c₀ c s i → rows l ≤ i → calculation l c₀ ≡ worked_as done c
+all_end : (l c₀ c : List ℕ) (s : List Fed) (i : ℕ) → Passing l c₀ c s i → rows l ≤ i → calculation l c₀ ≡ worked_as done c
 unfolding work_out up_from worked_as
 all_end l c₀ c s i v h =
     let e : rows l - i ≡ 0 = omega arith in
     sym v.left ∙ rw e
 
 -- so all rows can be worked out one after the other, and come to the calculation
-module _ (l c s : List ℕ) (a : Unworked l c s) where
+module _ (l c : List ℕ) (s : List Fed) (a : Unworked l c s) where
   -- the first n rows
   abbrev first_rows : ℕ → Step
   first_rows n = steps l 0 n c s
@@ -133,7 +135,7 @@ module _ (l c s : List ℕ) (a : Unworked l c s) where
       let q : 0 + n ≡ n = omega arith in
       ap first_rows (sym (add-one n)) ∙ steps_next l 0 c s n e ∙ ap (λ (k : ℕ). step l k (first_rows n).card (first_rows n).sums) q
 
-  no_step : (n : ℕ) (b : Answer) → (first_rows n).tested ≡ Err b → first_rows (suc n) ≡ first_rows n
+  no_step : (n : ℕ) (b : Refusal) → (first_rows n).tested ≡ Err b → first_rows (suc n) ≡ first_rows n
   no_step n b e = ap first_rows (sym (add-one n)) ∙ steps-over l 0 c s n b e
 
   as-stepped : (z z' : Step) → z ≡ z' → Stepped z' z.tested z.card z.sums
@@ -160,7 +162,7 @@ module _ (l c s : List ℕ) (a : Unworked l c s) where
           (first_rows (suc n)).card (first_rows (suc n)).sums p (as-stepped (first_rows (suc n)) _ (next-step n e)))
       by_cases before (Err b) e = absurd (never-passed (sym p ∙ ap (λ (z : Step). z.tested) (no_step n b e) ∙ e))
 
-  refused-there : (n : ℕ) → n ≤ rows l → (b : Answer) → (first_rows n).tested ≡ Err b → calculation l c ≡ refused b
+  refused-there : (n : ℕ) → n ≤ rows l → (b : Refusal) → (first_rows n).tested ≡ Err b → calculation l c ≡ refused b
   unfolding worked_as
   refused-there zero h b e = absurd (never-passed (none_passed ∙ e))
   refused-there (suc n) h b e = by_cases (refused-there n (omega arith) b) (first_rows n).tested refl
@@ -181,7 +183,7 @@ module _ (l c s : List ℕ) (a : Unworked l c s) where
             (all-ready l c (first_rows k).card (first_rows k).sums k (passing k (omega arith) p) (omega arith) links linked);
       }
 
-  pub all-worked : (t : Answer) (c' s' : List ℕ) → Stepped (steps l 0 (rows l - 0) c s) t c' s' → calculation l c ≡ worked_as t c'
+  pub all-worked : (t : Answer) (c' : List ℕ) (s' : List Fed) → Stepped (steps l 0 (rows l - 0) c s) t c' s' → calculation l c ≡ worked_as t c'
   unfolding worked_as
   all-worked t c' s' z = by_cases t (sym y.answer)
     where

@@ -1,4 +1,7 @@
 -- The whole calculation's answer, one law for each way that it ends.
+use Rattle.feeding.specs.declared.Links.{Links}
+use Rattle.answers.specs.declared.Refusal.{Refusal}
+use Rattle.settle.specs.declared.Fed.{Fed}
 use Rattle.answers.specs.Answer.{Answer, done}
 use Rattle.std.proofs.Common.{Err}
 use mathlib.Core.Path.{◌≡◌, refl, sym, ap, ◌∙◌, subst}
@@ -6,15 +9,15 @@ use mathlib.Core.List.{List, ◌++◌}
 use Prim.Native.Nat.{ℕ, ◌*◌, ◌≤◌}
 use native.Mathlib.Nat.{mul_comm}
 use native.Mathlib.Omega.{arith}
-use lib.ListN.{length, get_or, take, drop}
+use lib.ListN.{length, take, drop}
 use Rattle.layout.specs.Counts.{column_count, rows_most, card_most}
 use Rattle.layout.specs.List.{rows}
 use Rattle.rows.specs.Tests.{size_test, rows_test}
 use Rattle.rows.proofs.InRangeLaws.{passed-feeds}
 use Rattle.rows.proofs.TestLaws.{SizeRight, size-passed}
-use Rattle.rowwise.specs.Sums.{ask_count}
+use Rattle.rowwise.specs.Sums.{nothing, fed_at}
 use Rattle.rowwise.specs.WorkOut.{Worked, on_passed}
-use Rattle.feeding.specs.Fed.{link_count, LinkReady}
+use Rattle.feeding.specs.Fed.{unlinked, link_at, LinkReady}
 use Rattle.rowwise.proofs.LinkLaws.{link-ready}
 use Rattle.rowwise.specs.Working.{Unworked}
 use Rattle.calculate.specs.Ready.{WorkTested, Answered}
@@ -22,7 +25,7 @@ use Rattle.calculate.specs.Whole.{Result, ending, calculation, worked_as, whole}
 use Rattle.calculate.proofs.FrameLaws.{framed, calculation-frame}
 
 module _ (l c : List ℕ) where
-  pub answered-size : (t : Answer) (a : Answer) → t ≡ size_test (length l) (length c) → t ≡ Err a → Answered (whole l c) a c
+  pub answered-size : (t : Answer) (a : Refusal) → t ≡ size_test (length l) (length c) → t ≡ Err a → Answered (whole l c) (Err a) c
   unfolding whole ending on_passed
   answered-size t a e f = rw (sym e ∙ f) (record { answer = refl; card = refl })
 
@@ -30,7 +33,7 @@ module _ (l c : List ℕ) where
     size : SizeRight (length l) (length c)
     size = size-passed (length l) (length c) (sym es ∙ fs)
 
-    pub answered-rows : (t : Answer) (a : Answer) → t ≡ rows_test l → t ≡ Err a → Answered (whole l c) a c
+    pub answered-rows : (t : Answer) (a : Refusal) → t ≡ rows_test l → t ≡ Err a → Answered (whole l c) (Err a) c
     unfolding whole ending on_passed
     answered-rows t a e f = rw (sym es ∙ fs, sym e ∙ f) (record { answer = refl; card = refl })
 
@@ -48,12 +51,12 @@ module _ (l c : List ℕ) where
       answered-worked a c' = subst (λ (z : Result). Answered z a c') (sym worked)
 
 module _ (l c : List ℕ) (r : WorkTested l c) where
-  pub links-ready : (links : List ℕ) → rows_most * link_count ≤ length links → ((x : ℕ) → get_or links x 0 ≡ 0) → LinkReady l links
+  pub links-ready : (links : List Links) → rows_most ≤ length links → ((i : ℕ) → link_at links i ≡ unlinked) → LinkReady l links
   links-ready links = link-ready l links (passed-feeds l r.tested) r.rows-to
 
   -- on a card of its own with room for every row, and sums that are 0
   pub own-unworked :
-      (z y : List ℕ) → card_most ≤ length z → rows_most * ask_count ≤ length y → ((x : ℕ) → get_or y x 0 ≡ 0) → Unworked l z y
+      (z : List ℕ) (y : List Fed) → card_most ≤ length z → rows_most ≤ length y → ((i : ℕ) → fed_at y i ≡ nothing) → Unworked l z y
   own-unworked z y h k q =
       record {
         rows-to = r.rows-to;
@@ -72,8 +75,8 @@ module _ (l c : List ℕ) (r : WorkTested l c) where
       ap (framed (rows l * column_count) c) e)
 
   pub answered-refused :
-      (z z' : List ℕ) (w : Answer) (a : Answer) → card_most ≤ length z → calculation l z ≡ worked_as w z' → w ≡ Err a →
-      Answered (ending c (calculation l c)) a c
+      (z z' : List ℕ) (w : Answer) (a : Refusal) → card_most ≤ length z → calculation l z ≡ worked_as w z' → w ≡ Err a →
+      Answered (ending c (calculation l c)) (Err a) c
   unfolding ending framed worked_as
   answered-refused z z' w a h e f =
       rw (calculates z (worked_as w z') h e, f) (record { answer = refl; card = refl })

@@ -10,7 +10,6 @@ use Prim.Native.Nat.{ℕ, ◌≤◌, ◌<◌}
 use native.Mathlib.Nat.{le_refl}
 use native.Mathlib.Omega.{arith}
 use lib.ListN.{length}
-use Rattle.layout.specs.declared.CardRow.{CardRow}
 use Rattle.layout.specs.Card.{card_row_at}
 use Rattle.layout.specs.List.{rows}
 use Rattle.layout.specs.View.{View, view_of, Settings}
@@ -20,7 +19,7 @@ use Rattle.settle.specs.Inequalities.{Feeding, TimeMet}
 use Rattle.settle.proofs.DefiniteTheorems.{definite-time-met}
 use Rattle.settle.proofs.SameLaws.{fed-below}
 use Rattle.settle.proofs.TimeLaws.{setting-definite}
-use Rattle.calculate.specs.Meets.{PickupsMeet, LeastPickups, TimesMeet, Meets, NoCurves, MeetsTogether}
+use Rattle.calculate.specs.Meets.{LeastPickups, TimesMeet, Meets, NoCurves, MeetsTogether}
 use Rattle.calculate.specs.Whole.{whole}
 use Rattle.calculate.proofs.Demand2.{accepted-meets, settings-accepted, no-lower-pickup, no-lower-no-shorter, law-column}
 use Rattle.calculate.proofs.LeastSetLaws.{with_pickup, least-pickups-exist}

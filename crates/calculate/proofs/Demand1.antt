@@ -5,7 +5,7 @@
 use Rattle.answers.specs.declared.Refusal.TheVariants.{Unsettled}
 use Rattle.answers.specs.Answer.{Answer}
 use Rattle.std.proofs.Common.{Err}
-use mathlib.Core.Path.{◌≡◌, refl, sym, ◌∙◌, subst}
+use mathlib.Core.Path.{◌≡◌, refl, sym, ap, ◌∙◌, subst}
 use mathlib.Core.Logic.{◌↔◌, ⊎_elim}
 use mathlib.Core.List.{List}
 use Prim.Native.Nat.{ℕ, zero, suc, ◌+◌, ◌*◌, ◌≤◌, ◌<◌}
@@ -86,13 +86,17 @@ module _ (l c : List ℕ) where
     below : (k : Settings) (i : ℕ) → UpTo (view_of l) k i → (j : ℕ) → j < i → RowSettled (view_of l) k j
     below k i u j g = least-settled (view_of l) k j (bounded j (omega (arith, u.is_row))) (u.rows-below j g)
 
-    refused-whole : {x : Answer} → RefusedAt (view_of l) x → calculation l c ≡ refused x
+    refused-whole : {x : Answer} → RefusedAt (view_of l) x → ending c (calculation l c) ≡ record { answer = x; card = c }
+    unfolding ending
     refused-whole (NO-PICKUP k i why u n) =
-        refuses l b k i u.is_row (Pickup why) ((no-pickup-exactly (view_of l) k i (bounded i u.is_row) why).1 n) (below k i u) c r
+        ap (ending c)
+        (refuses l b k i u.is_row (Pickup why) ((no-pickup-exactly (view_of l) k i (bounded i u.is_row) why).1 n) (below k i u) c r)
     refused-whole (CURVE k i x place u p n) =
-        refuses l b k i u.is_row (Curve place) ((no-curve-exactly (view_of l) k i (bounded i u.is_row) place).1 (x, p, n)) (below k i u) c r
+        ap (ending c)
+        (refuses l b k i u.is_row (Curve place) ((no-curve-exactly (view_of l) k i (bounded i u.is_row) place).1 (x, p, n)) (below k i u) c r)
     refused-whole (DELAY k i x u p m n) =
-        refuses l b k i u.is_row Delay ((no-delay-exactly (view_of l) k i (bounded i u.is_row)).1 (x, p, m, n)) (below k i u) c r
+        ap (ending c)
+        (refuses l b k i u.is_row Delay ((no-delay-exactly (view_of l) k i (bounded i u.is_row)).1 (x, p, m, n)) (below k i u) c r)
 
   get-whole : {x : Answer} → Gets l c x → (whole l c).answer ≡ x
   unfolding whole ending on_passed

@@ -15,7 +15,7 @@ use Rattle.std.proofs.Common.{Ok, Err}
 use mathlib.Core.Path.{◌≡◌, refl, sym, ap, ◌∙◌}
 use mathlib.Core.Logic.{◌↔◌, ◌⊎◌, inl, inr, ⊎_elim}
 use mathlib.Core.List.{List}
-use Prim.Native.Nat.{ℕ, ◌+◌, ◌*◌, ◌≤◌, ◌<◌}
+use Prim.Native.Nat.{ℕ, ◌*◌, ◌≤◌, ◌<◌}
 use native.Mathlib.Omega.{arith}
 use lib.ListN.{length, drop}
 use Rattle.fold.proofs.BoolLaws.{zero-not-one, not-both}
@@ -40,7 +40,7 @@ use Rattle.settle.proofs.CauseTheorems.{cause-no-pickup}
 use Rattle.settle.proofs.SettledTheorems.{settled-least}
 use Rattle.rowwise.specs.WorkOut.{Worked, finished, refused, on_passed}
 use Rattle.rowwise.specs.Working.{every_row}
-use Rattle.calculate.specs.Meets.{PickupsMeet, LeastPickups, TimesMeet, Meets}
+use Rattle.calculate.specs.Meets.{PickupsMeet, Meets}
 use Rattle.calculate.specs.Refused.{UpTo, RefusedAt, NO-PICKUP, CURVE, DELAY}
 use Rattle.calculate.specs.Whole.{Result, ending, calculation, whole}
 use Rattle.calculate.proofs.FrameLaws.{calculation-keeps}
@@ -51,10 +51,10 @@ use Rattle.calculate.proofs.RefusedLaws.{refused-not-done, calculation-refused}
 use Rattle.calculate.proofs.SettledLaws.{calculation-settled}
 
 -- no answer is two things at once
-pickup-not-delay : {row row' : ℕ} {why : Cause} → Unsettled row (Pickup why) ≡ Unsettled row' Delay → ⊥
+pickup-not-delay : {row row' : ℕ} {why : Cause} → ◌≡◌ {A = Answer} (Err (Unsettled row (Pickup why))) (Err (Unsettled row' Delay)) → ⊥
 pickup-not-delay e = zero-not-one cc
 
-pickup-not-curve : {row row' place : ℕ} {why : Cause} → Unsettled row (Pickup why) ≡ Unsettled row' (Curve place) → ⊥
+pickup-not-curve : {row row' place : ℕ} {why : Cause} → ◌≡◌ {A = Answer} (Err (Unsettled row (Pickup why))) (Err (Unsettled row' (Curve place))) → ⊥
 pickup-not-curve e = zero-not-one cc
 
 module _ (l c : List ℕ) (size : RightSize l) (room : HasRoom l (length c)) (a : InRange l) (b : Feeds l) where
@@ -87,7 +87,7 @@ module _ (l c : List ℕ) (size : RightSize l) (room : HasRoom l (length c)) (a 
           let q = calculates ∙ ap (ending c) f in
           accepted (ap (λ (r : Result). r.answer) q) (f ∙ ap finished (sym (ap (λ (r : Result). r.card) q)))
       by_cases (refused x) f =
-          refused-by x (ap (λ (r : Result). r.answer) (calculates ∙ ap (ending c) f)) (calculation-refused l bounded b c x room f)
+          refused-by (Err x) (ap (λ (r : Result). r.answer) (calculates ∙ ap (ending c) f)) (calculation-refused l bounded b c x room f)
 
   every-row-settled : (whole l c).answer ≡ done → (j : ℕ) → j < rows l → RowSettled v card j
   unfolding v card
@@ -118,7 +118,7 @@ module _ (l c : List ℕ) (size : RightSize l) (room : HasRoom l (length c)) (a 
         pickup-fits-on v (fed-below l b) every_row (rows l) s k (λ j _ o. absurd (not-both refl o)) (λ i h _. m.available i h) (λ i h _. m.met i h)
         i u.is_row refl (λ j g _. (u.rows-below j g).pickup) (cause-no-pickup v s i n)
 
-    pub pickups-exist : (row : ℕ) (why : Cause) → (whole l c).answer ≡ Unsettled row (Pickup why) → ⊥
+    pub pickups-exist : (row : ℕ) (why : Cause) → (whole l c).answer ≡ Err (Unsettled row (Pickup why)) → ⊥
     pickups-exist row why e = by_cases ended
       where
         by_cases : Ended → ⊥

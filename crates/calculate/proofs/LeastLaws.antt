@@ -2,7 +2,7 @@
 -- same, their settings are no greater than any that meet D1 and D2: what meets the conditions above the given settings meets them above
 -- the least ones. So where such pickups exist a pickup fits the next row, and where such settings exist a setting does, whatever the
 -- laws. For the rows of a set below n, the others standing alike in both settings (for a path; for all rows the set is every row).
-use mathlib.Core.Path.{◌≡◌, refl, sym, ◌∙◌, subst}
+use mathlib.Core.Path.{◌≡◌, sym, ◌∙◌, subst}
 use mathlib.Core.Bool.{Bool, true, false}
 use mathlib.Core.Logic.{⊎_elim}
 use Prim.Native.Nat.{ℕ, zero, suc, ◌≤◌, ◌<◌}

@@ -1,4 +1,5 @@
 -- A calculation that ends in a refusal: which row it names, and why.
+use Rattle.answers.specs.declared.Refusal.{Refusal}
 use Rattle.settle.specs.Outcomes.{Settled}
 use Rattle.answers.specs.declared.Refusal.TheVariants.{Unsettled}
 use Rattle.answers.specs.Answer.{Answer, done}
@@ -36,8 +37,8 @@ refused-not-done (DELAY k i x u p r n) e = unsettled-not-done e
 
 module _ (l : List ℕ) (a : AllBounded (view_of l)) (b : Feeds l) where
   refused-from :
-      (m i : ℕ) (c : List ℕ) (x : Answer) → i + m ≡ rows l → rows l * column_count ≤ length c → ((j : ℕ) → j < i → Settles l c j) →
-      work_out l (up_from i m) c ≡ refused x → RefusedAt (view_of l) x
+      (m i : ℕ) (c : List ℕ) (x : Refusal) → i + m ≡ rows l → rows l * column_count ≤ length c → ((j : ℕ) → j < i → Settles l c j) →
+      work_out l (up_from i m) c ≡ refused x → RefusedAt (view_of l) (Err x)
   unfolding work_out up_from on_settled
   refused-from zero i c x n k all e = absurd (never-finished (sym e))
   refused-from (suc m) i c x n k all e =
@@ -53,7 +54,7 @@ module _ (l : List ℕ) (a : AllBounded (view_of l)) (b : Feeds l) where
       up_to =
           record { is_row = h; rows-below = λ j g. settled-least (view_of l) (card_row_at c) j (a j (omega arith)) (all j g) }
 
-      named : (why : Reason) → settled (view_of l) (card_row_at c) i ≡ Err why → RefusedAt (view_of l) (Unsettled (i + 1) why)
+      named : (why : Reason) → settled (view_of l) (card_row_at c) i ≡ Err why → RefusedAt (view_of l) (Err (Unsettled (i + 1) why))
       named (Pickup why) s = NO-PICKUP (card_row_at c) i why up_to ((no-pickup-exactly (view_of l) (card_row_at c) i (a i h) why).0 s)
       named (Curve place) s =
           let d = (no-curve-exactly (view_of l) (card_row_at c) i (a i h) place).0 s in
@@ -65,10 +66,10 @@ module _ (l : List ℕ) (a : AllBounded (view_of l)) (b : Feeds l) where
       by_cases :
           (s : Settled) → settled (view_of l) (card_row_at c) i ≡ s → on_settled i s (λ k. work_out l (up_from (suc i) m) (put_card_row c i k)) ≡ refused x →
           ((o : Outcome) → settled (view_of l) (card_row_at c) i ≡ Ok o → work_out l (up_from (suc i) m) (put_card_row c i (shown o)) ≡ refused x →
-          RefusedAt (view_of l) x) → RefusedAt (view_of l) x
+          RefusedAt (view_of l) (Err x)) → RefusedAt (view_of l) (Err x)
       by_cases (Ok o) s e ih = ih o s e
-      by_cases (Err why) s e ih = subst (RefusedAt (view_of l)) (same-refusal e) (named why s)
+      by_cases (Err why) s e ih = subst (λ (a : Refusal). RefusedAt (view_of l) (Err a)) (same-refusal e) (named why s)
 
-  pub calculation-refused : (c : List ℕ) (x : Answer) → rows l * column_count ≤ length c → calculation l c ≡ refused x → RefusedAt (view_of l) x
+  pub calculation-refused : (c : List ℕ) (x : Refusal) → rows l * column_count ≤ length c → calculation l c ≡ refused x → RefusedAt (view_of l) (Err x)
   unfolding calculation
   calculation-refused c x k e = refused-from (rows l) 0 c x (zero-add (rows l)) k (λ j g. absurd (omega arith)) e

@@ -3,7 +3,7 @@
 -- card is unchanged.
 -- Definitions only.
 use Rattle.answers.specs.Answer.{Answer, done}
-use Rattle.std.specs.Prelude.{List, ℕ, length, Result, Ok, Err}
+use Rattle.std.specs.Prelude.{List, ℕ, length, Ok, Err}
 use Rattle.layout.specs.List.{rows}
 use Rattle.rows.specs.Tests.{size_test, rows_test}
 use Rattle.rowwise.specs.WorkOut.{Worked, finished, refused, work_out, up_from, on_passed}
@@ -15,7 +15,7 @@ pub record Result : Type 0 where
 -- how working out ends, the card being c before it
 unfoldable pub ending : List ℕ → Worked → Result
 ending c (finished c') = record { answer = done; card = c' }
-ending c (refused a) = record { answer = a; card = c }
+ending c (refused a) = record { answer = Err a; card = c }
 
 -- every row worked out, in ascending order
 unfoldable pub calculation : List ℕ → List ℕ → Worked

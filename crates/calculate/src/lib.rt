@@ -5,12 +5,13 @@ ghost use Rattle.std.specs.Prelude.{◌≡◌, ◌++◌, ◌≤◌, length, take
 ghost use Rattle.calculate.specs.Ready.{WorkTested, Answered, Gave};
 ghost use Rattle.calculate.specs.Whole.{ending, calculation, worked_as, whole};
 
-use answers::{Answer, NUMBERS, Tested, numbers};
+use answers::{NUMBERS, Refusal, numbers};
 use blocks::put;
-use feeding::{LINKS, link};
-use layout::{CARD, COLUMNS, FIELDS};
+use feeding::{UNLINKED, link};
+use layout::{CARD, COLUMNS, FIELDS, ROWS};
 use rows::{test_rows, test_size};
-use rowwise::{SUMS, work_rows};
+use rowwise::work_rows;
+use settle::NOTHING;
 
 fn copy_front(to: &mut [u64], from: &[u64], n: usize)
     requires { (n ≤ length to.old) × (n ≤ length from.now) }
@@ -20,34 +21,25 @@ fn copy_front(to: &mut [u64], from: &[u64], n: usize)
 }
 
 // A list that is tested, with room for its card. The rows are worked out on a card of its own, so that a refusal leaves the lent one as it was.
-fn work_tested(list: &[u64], card: &mut [u64]) -> Answer
+fn work_tested(list: &[u64], card: &mut [u64]) -> Result<(), Refusal>
     requires { WorkTested list.now card.old }
     ensures { Answered (ending card.old (calculation list.now card.old)) result card.new }
 {
     let n = list.len() / FIELDS;
-    let mut links = [0u8; LINKS];
+    let mut links = [UNLINKED; ROWS];
     link(list, &mut links);
     let mut out = [0u64; CARD];
-    let mut sums = [0u64; SUMS];
-    let worked = work_rows(list, &links, 0, n, &mut out, &mut sums);
-    if let Tested::Refused(a) = worked {
-        return a;
-    }
+    let mut sums = [NOTHING; ROWS];
+    work_rows(list, &links, 0, n, &mut out, &mut sums)?;
     copy_front(card, &out, COLUMNS * n);
-    Answer::Done
+    Ok(())
 }
 
-fn answer(list: &[u64], card: &mut [u64]) -> Answer
+fn answer(list: &[u64], card: &mut [u64]) -> Result<(), Refusal>
     ensures { Answered (whole list.now card.old) result card.new }
 {
-    let size = test_size(list.len(), card.len());
-    if let Tested::Refused(a) = size {
-        return a;
-    }
-    let rows = test_rows(list);
-    if let Tested::Refused(a) = rows {
-        return a;
-    }
+    test_size(list.len(), card.len())?;
+    test_rows(list)?;
     work_tested(list, card)
 }
 
