@@ -14,7 +14,7 @@ use Rattle.rowwise.specs.WorkOut.{Worked, on_passed}
 use Rattle.path.specs.Reach.{reach}
 use Rattle.change.specs.Edit.{PutReady, EditFits}
 use Rattle.change.specs.Ready.{ExchangeReady, exchanged, answer_of, count_of, Exchanged, Gave}
-use Rattle.path.specs.Ready.{PathReady, ReworkReady, far_of, card_of, Reworked, WorkedOut}
+use Rattle.path.specs.Ready.{PathReady, ReworkReady, far_of, card_of, Reworked, WorkedOut, HowFar}
 use Rattle.change.specs.Edit.{put_list, edit_test}
 use Rattle.change.specs.Replace.{reworked, outcome, Replaced, replaced}
 use Rattle.path.specs.CardTest.{card_test}
@@ -24,12 +24,12 @@ use Rattle.change.proofs.EditLaws.{edit-passed}
 
 -- 4 and 5, 9, then the path
 module _ (l : List ℕ) (i : ℕ) (c : List ℕ) where
-  pub rework-rows : (t : Answer) (a : Answer) → t ≡ rows_test l → t ≡ Err a → Reworked (reach l i c) (reworked l i c) c (Result ℕ Refusal.Refused a) c
+  pub rework-rows : (t : Answer) (a : Answer) → t ≡ rows_test l → t ≡ Err a → Reworked (reach l i c) (reworked l i c) c (Err a) c
   unfolding reworked on_passed far_of card_of
   rework-rows t a e f = rw (sym e ∙ f) (record { far = refl; card = refl })
 
   module _ (t : Answer) (e : t ≡ rows_test l) (f : t ≡ done) (t' : Answer) (e' : t' ≡ card_test l i c) where
-    pub rework-card : (a : Answer) → t' ≡ Err a → Reworked (reach l i c) (reworked l i c) c (Result ℕ Refusal.Refused a) c
+    pub rework-card : (a : Answer) → t' ≡ Err a → Reworked (reach l i c) (reworked l i c) c (Err a) c
     unfolding reworked on_passed far_of card_of
     rework-card a f' = rw (sym e ∙ f, sym e' ∙ f') (record { far = refl; card = refl })
 
@@ -37,12 +37,12 @@ module _ (l : List ℕ) (i : ℕ) (c : List ℕ) where
     rework-ready f' r = record { rework = r; rows-tested = sym e ∙ f; card-tested = sym e' ∙ f' }
 
     pub rework-path :
-        t' ≡ done → (x : Result ℕ Refusal) (c' : List ℕ) → WorkedOut l (reach l i c) c x c' → Reworked (reach l i c) (reworked l i c) c x c'
+        t' ≡ done → (x : HowFar) (c' : List ℕ) → WorkedOut l (reach l i c) c x c' → Reworked (reach l i c) (reworked l i c) c x c'
     unfolding reworked on_passed
     rework-path f' x c' z = rw (sym e ∙ f, sym e' ∙ f') z
 
 -- the new row is put in
-module _ (l c : List ℕ) (i : ℕ) (row l' : List ℕ) (el : l' ≡ put_list l i row) (x : Result ℕ Refusal) (c' : List ℕ)
+module _ (l c : List ℕ) (i : ℕ) (row l' : List ℕ) (el : l' ≡ put_list l i row) (x : HowFar) (c' : List ℕ)
     (z : Reworked (reach l' i c) (reworked l' i c) c x c') where
   worked : reworked (put_list l i row) i c ≡ reworked l' i c
   worked = ap (λ (l : List ℕ). reworked l i c) (sym el)
@@ -56,13 +56,13 @@ module _ (l c : List ℕ) (i : ℕ) (row l' : List ℕ) (el : l' ≡ put_list l 
 
   -- refused: the old row, which was kept aside in 22 numbers, goes back
   pub exchange-refused :
-      (a : Answer) (y old l'' : List ℕ) → x ≡ Result ℕ Refusal.Refused a → PutReady l i row → length y ≡ field_count →
+      (a : Answer) (y old l'' : List ℕ) → x ≡ Err a → PutReady l i row → length y ≡ field_count →
       old ≡ put_list y 0 (take (i * field_count + field_count - i * field_count) (drop (i * field_count) l)) → l'' ≡ put_list l' i old → Exchanged
-      (exchanged l c i row) (Result ℕ Refusal.Refused a) l'' c'
+      (exchanged l c i row) (Err a) l'' c'
   unfolding outcome put_list answer_of count_of
   exchange-refused a y old l'' e h ky eo e'' =
       let b = reworked-refused (reach l' i c) (reworked l' i c) c x c' z a e in
-      subst (λ (w : Worked). Exchanged (outcome l c (put_list l i row) i w) (Result ℕ Refusal.Refused a) l'' c') (sym (worked ∙ b.0))
+      subst (λ (w : Worked). Exchanged (outcome l c (put_list l i row) i w) (Err a) l'' c') (sym (worked ∙ b.0))
       (record {
         answer = refl;
         count = refl;
@@ -81,12 +81,12 @@ module _ (l c : List ℕ) (i : ℕ) (row l' : List ℕ) (el : l' ≡ put_list l 
 
 -- 2 and 3, then 10
 module _ (l c : List ℕ) (place : ℕ) (row : List ℕ) where
-  pub answer-size : (t : Answer) (a : Answer) → t ≡ size_test (length l) (length c) → t ≡ Err a → Exchanged (replaced l c place row) (Result ℕ Refusal.Refused a) l c
+  pub answer-size : (t : Answer) (a : Answer) → t ≡ size_test (length l) (length c) → t ≡ Err a → Exchanged (replaced l c place row) (Err a) l c
   unfolding replaced on_passed outcome answer_of count_of
   answer-size t a e f = rw (sym e ∙ f) (record { answer = refl; count = refl; list = refl; card = refl })
 
   module _ (t : Answer) (e : t ≡ size_test (length l) (length c)) (f : t ≡ done) (t' : Answer) (e' : t' ≡ edit_test l place row) where
-    pub answer-edit : (a : Answer) → t' ≡ Err a → Exchanged (replaced l c place row) (Result ℕ Refusal.Refused a) l c
+    pub answer-edit : (a : Answer) → t' ≡ Err a → Exchanged (replaced l c place row) (Err a) l c
     unfolding replaced on_passed outcome answer_of count_of
     answer-edit a f' = rw (sym e ∙ f, sym e' ∙ f') (record { answer = refl; count = refl; list = refl; card = refl })
 
@@ -108,13 +108,13 @@ module _ (l c : List ℕ) (place : ℕ) (row : List ℕ) where
           }
 
       pub answer-exchanged :
-          (x : Result ℕ Refusal) (l' c' : List ℕ) → Exchanged (exchanged l c (place - 1) row) x l' c' → Exchanged (replaced l c place row) x l' c'
+          (x : HowFar) (l' c' : List ℕ) → Exchanged (exchanged l c (place - 1) row) x l' c' → Exchanged (replaced l c place row) x l' c'
       unfolding replaced on_passed
       answer-exchanged x l' c' z = rw (sym e ∙ f, sym e' ∙ f') z
 
 -- the answer in section 4's numbers, and the count
 pub gave :
-    {z : Replaced} {x : Result ℕ Refusal} (y : Result ℕ Refusal) {n : ℕ} {g l c : List ℕ} → x ≡ y → g ≡ given_by (answer_of y) → n ≡ count_of y → Exchanged z x l c →
+    {z : Replaced} {x : HowFar} (y : HowFar) {n : ℕ} {g l c : List ℕ} → x ≡ y → g ≡ given_by (answer_of y) → n ≡ count_of y → Exchanged z x l c →
     Gave z g n l c
 gave y q e f w =
     record {

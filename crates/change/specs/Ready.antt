@@ -3,7 +3,7 @@ use Rattle.answers.specs.declared.Refusal.{Refusal}
 use Rattle.std.specs.Prelude.{◌≡◌, List, ℕ, length, Result, Ok, Err}
 use Rattle.layout.specs.Counts.{field_count}
 use Rattle.answers.specs.Answer.{given_by, Answer, done}
-use Rattle.path.specs.Ready.{ReworkReady}
+use Rattle.path.specs.Ready.{ReworkReady, HowFar}
 use Rattle.change.specs.Edit.{put_list}
 use Rattle.change.specs.Replace.{reworked, outcome, Replaced}
 
@@ -16,16 +16,16 @@ abbrev pub exchanged : List ℕ → List ℕ → ℕ → List ℕ → Replaced
 exchanged l c i row = outcome l c (put_list l i row) i (reworked (put_list l i row) i c)
 
 -- the answer of a working out, and the count of its rows
-unfoldable pub answer_of : Result ℕ Refusal → Answer
+unfoldable pub answer_of : HowFar → Answer
 answer_of (Ok n) = done
 answer_of (Err a) = a
 
-unfoldable pub count_of : Result ℕ Refusal → ℕ
+unfoldable pub count_of : HowFar → ℕ
 count_of (Ok n) = n
 count_of (Err a) = 0
 
 -- the answer, the count, the list and the card are the replacement's
-pub record Exchanged (z : Replaced) (f : Result ℕ Refusal) (l c : List ℕ) : Type 0 where
+pub record Exchanged (z : Replaced) (f : HowFar) (l c : List ℕ) : Type 0 where
   pub answer : answer_of f ≡ z.answer
   pub count : count_of f ≡ z.count
   pub list : l ≡ z.list

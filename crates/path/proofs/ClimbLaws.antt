@@ -1,10 +1,11 @@
 -- One row of a climb: row i is settled by its sums, and by its fed rows as the card has them, as section 3 says, since all rows that it feeds
 -- are off its path, and so done.
+use Rattle.settle.specs.declared.Fed.{Fed}
 use Rattle.feeding.specs.declared.Links.{Links}
 use Rattle.settle.specs.Outcomes.{Settled}
 use Rattle.answers.specs.declared.Refusal.{Refusal}
 use Rattle.answers.specs.Answer.{Answer, done}
-use Rattle.std.proofs.Common.{Result, Ok, Err}
+use Rattle.std.proofs.Common.{Ok, Err}
 use mathlib.Core.Path.{◌≡◌, refl, sym, ap, ◌∙◌}
 use mathlib.Core.Bool.{Bool, true, not}
 use mathlib.Core.List.{List}
@@ -34,7 +35,7 @@ use Rattle.path.proofs.ReachLaws.{get-reached}
 abbrev pub off : List ℕ → ℕ → ℕ → Bool
 off l i j = not (on_path l i j)
 
-module _ (l : List ℕ) (links : List Links) (i : ℕ) (c s : List ℕ) (r : ClimbReady l links i c s) where
+module _ (l : List ℕ) (links : List Links) (i : ℕ) (c : List ℕ) (s : List Fed) (r : ClimbReady l links i c s) where
   -- the feeder of a row on the path is on it
   feeder-on : 1 ≤ (row_at l i).feeder → on_path l i ((row_at l i).feeder - 1) ≡ true
   feeder-on q =
@@ -63,22 +64,22 @@ module _ (l : List ℕ) (links : List Links) (i : ℕ) (c s : List ℕ) (r : Cli
   comes = sym settles
 
   -- the row's own step
-  module _ (t : Answer) (c' s' : List ℕ) (worked : Stepped (steps l i (i + 1 - i) c s) t c' s') where
+  module _ (t : Answer) (c' : List ℕ) (s' : List Fed) (worked : Stepped (steps l i (i + 1 - i) c s) t c' s') where
     z : Stepped (step l i c s) t c' s'
     z = rw (one-row l i c s) at worked
 
     pub climb-refused :
-        (feeding : Bool) (a : Answer) → t ≡ Err a → WorkedOut l (reach_from l feeding (path_of l i) c) c (Result ℕ Refusal.Refused a) c'
+        (feeding : Bool) (a : Refusal) → t ≡ Err a → WorkedOut l (reach_from l feeding (path_of l i) c) c (Err a) c'
     unfolding step step_by work_out on_settled far_of card_of
     climb-refused feeding a e = by_cases (settled_at l i c s) comes z
       where
         by_cases :
             (o : Settled) → comes_to l i c ≡ o → Stepped (step_by l i c s o) t c' s' →
-            WorkedOut l (reach_from l feeding (path_of l i) c) c (Result ℕ Refusal.Refused a) c'
+            WorkedOut l (reach_from l feeding (path_of l i) c) c (Err a) c'
         by_cases (Ok o) q z = absurd (never-passed (sym z.answer ∙ e))
         by_cases (Err why) q z =
             rw (get-reached l r.working.feeds r.is_row (refused-there feeding i c why q), q)
-            (record { far = ap Result ℕ Refusal.Refused (same_answer (sym e ∙ z.answer)); card = z.card })
+            (record { far = ap Err (same_answer (sym e ∙ z.answer)); card = z.card })
 
     -- what it comes to, where it passed
     pub record Comes : Type 0 where

@@ -1,9 +1,10 @@
 -- The climb past a row that is settled: it ends there, being fed by the source or a feeding row that comes out as it was, or the path of
 -- its feeding row is worked out on the card with the row put in; on a refusal there the old numbers go back.
+use Rattle.settle.specs.declared.Fed.{Fed}
 use Rattle.feeding.specs.declared.Links.{Links}
 use Rattle.answers.specs.declared.Refusal.{Refusal}
 use Rattle.answers.specs.Answer.{Answer}
-use Rattle.std.proofs.Common.{Result, Ok}
+use Rattle.std.proofs.Common.{Ok, Err}
 use mathlib.Core.Path.{◌≡◌, refl, sym, ap, ap₂, ◌∙◌, subst}
 use mathlib.Core.Bool.{Bool, true, false, ◌&&◌, ◌||◌, or-true, or-false}
 use mathlib.Core.Logic.{⊎_elim}
@@ -27,7 +28,7 @@ use Rattle.rowwise.specs.WorkOut.{on_settled, work_out}
 use Rattle.rowwise.proofs.WorkingLaws.{work-next}
 use Rattle.path.specs.Path.{path_of, on_path}
 use Rattle.path.specs.Reach.{reach_from, Reaches, at_source, as_it_was, goes_on}
-use Rattle.path.specs.Ready.{ClimbReady, far_of, card_of, WorkedOut}
+use Rattle.path.specs.Ready.{ClimbReady, far_of, card_of, WorkedOut, HowFar}
 use Rattle.path.proofs.ReachRowsLaws.{reach-length}
 use Rattle.path.proofs.PathLaws.{path-length, fed-climbs, on-fed, on-self, off-below}
 use Rattle.path.proofs.EndLaws.{reworked-done, reworked-refused}
@@ -35,7 +36,7 @@ use Rattle.rows.specs.InRange.{Feeds}
 use Rattle.path.proofs.ReachLaws.{stops-exactly, get-reached, reaches-from}
 use Rattle.path.proofs.ClimbLaws.{off, climb-works, Comes}
 
-module _ {l : List ℕ} {links : List Links} {i : ℕ} {c s : List ℕ} {r : ClimbReady l links i c s} {t : Answer} {c' s' : List ℕ}
+module _ {l : List ℕ} {links : List Links} {i : ℕ} {c : List ℕ} {s : List Fed} {r : ClimbReady l links i c s} {t : Answer} {c' : List ℕ} {s' : List Fed}
     {z : Stepped (steps l i (i + 1 - i) c s) t c' s'} (p : Comes l links i c s r t c' s' z) (feeding : Bool) where
   abbrev feeds : Feeds l
   feeds = r.working.feeds
@@ -85,7 +86,7 @@ module _ {l : List ℕ} {links : List Links} {i : ℕ} {c s : List ℕ} {r : Cli
         pub climb-on : ClimbReady l links (f - 1) c' s'
         climb-on =
             let k = fed-climbs l feeds i r.is_row fed in
-            subst (λ (x : List ℕ). ClimbReady l links (f - 1) c' x) (sym p.sums)
+            subst (λ (x : List Fed). ClimbReady l links (f - 1) c' x) (sym p.sums)
             (subst (λ (x : List ℕ). ClimbReady l links (f - 1) x (pushed (row_at l i) (shown p.outcome) s)) (sym p.card)
             (record {
               is_row = rw ef k.within;
@@ -119,9 +120,9 @@ module _ {l : List ℕ} {links : List Links} {i : ℕ} {c s : List ℕ} {r : Cli
 
         -- a refusal above: the row's old numbers go back
         pub climb-back :
-            (x : Result ℕ Refusal) (a : Answer) (c'' c''' : List ℕ) → WorkedOut l (reach_from l true (path_of l (f - 1)) c') c' x c'' →
-            x ≡ Result ℕ Refusal.Refused a → c''' ≡ put_card_row c'' i old →
-            WorkedOut l (reach_from l feeding (path_of l i) c) c (Result ℕ Refusal.Refused a) c'''
+            (x : HowFar) (a : Refusal) (c'' c''' : List ℕ) → WorkedOut l (reach_from l true (path_of l (f - 1)) c') c' x c'' →
+            x ≡ Err a → c''' ≡ put_card_row c'' i old →
+            WorkedOut l (reach_from l feeding (path_of l i) c) c (Err a) c'''
         unfolding far_of card_of
         climb-back x a c'' c''' w g b''' =
             let b = reworked-refused _ _ c' x c'' w a g in
@@ -133,7 +134,7 @@ module _ {l : List ℕ} {links : List Links} {i : ℕ} {c s : List ℕ} {r : Cli
             })
 
         pub climb-done :
-            (x : Result ℕ Refusal) (m : ℕ) (c'' : List ℕ) → WorkedOut l (reach_from l true (path_of l (f - 1)) c') c' x c'' → x ≡ Ok m →
+            (x : HowFar) (m : ℕ) (c'' : List ℕ) → WorkedOut l (reach_from l true (path_of l (f - 1)) c') c' x c'' → x ≡ Ok m →
             WorkedOut l (reach_from l feeding (path_of l i) c) c (Ok (m + 1)) c''
         unfolding far_of card_of
         climb-done x m c'' w g =
@@ -143,7 +144,7 @@ module _ {l : List ℕ} {links : List Links} {i : ℕ} {c s : List ℕ} {r : Cli
 
         -- a path has no more rows than the list
         pub climb-counts :
-            (x : Result ℕ Refusal) (m : ℕ) (c'' : List ℕ) → WorkedOut l (reach_from l true (path_of l (f - 1)) c') c' x c'' → x ≡ Ok m →
+            (x : HowFar) (m : ℕ) (c'' : List ℕ) → WorkedOut l (reach_from l true (path_of l (f - 1)) c') c' x c'' → x ≡ Ok m →
             m ≤ rows_most
         climb-counts x m c'' w g =
             let b = reworked-done _ _ c' x c'' w m g in

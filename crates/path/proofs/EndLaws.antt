@@ -1,25 +1,24 @@
 -- How a working out ends: what its count or its refusal says of it, and of the card.
 use Rattle.answers.specs.declared.Refusal.{Refusal}
-use Rattle.answers.specs.Answer.{Answer}
-use Rattle.std.proofs.Common.{Result, Ok, Err}
+use Rattle.std.proofs.Common.{Ok, Err}
 use mathlib.Core.Path.{◌≡◌, sym, ap, ◌∙◌}
 use mathlib.Core.List.{List}
 use Prim.Native.Nat.{ℕ}
 use lib.ListN.{length}
 use Rattle.fold.proofs.BoolLaws.{zero-not-one}
 use Rattle.rowwise.specs.WorkOut.{Worked, finished, refused}
-use Rattle.path.specs.Ready.{far_of, card_of, Reworked}
+use Rattle.path.specs.Ready.{far_of, card_of, Reworked, HowFar}
 
-rows-not-refused : {n : ℕ} {a : Answer} → Ok n ≡ Err a → ⊥
+rows-not-refused : {n : ℕ} {a : Refusal} → ◌≡◌ {A = HowFar} (Ok n) (Err a) → ⊥
 rows-not-refused e = zero-not-one cc
 
-same_rows : {n m : ℕ} → Ok n ≡ Ok m → n ≡ m
+same_rows : {n m : ℕ} → ◌≡◌ {A = HowFar} (Ok n) (Ok m) → n ≡ m
 same_rows e = cc
 
-same-refused : {a b : Answer} → Err a ≡ Err b → a ≡ b
+same-refused : {a b : Refusal} → ◌≡◌ {A = HowFar} (Err a) (Err b) → a ≡ b
 same-refused e = cc
 
-module _ (is : List ℕ) (w : Worked) (c : List ℕ) (f : Result ℕ Refusal) (c' : List ℕ) (z : Reworked is w c f c') where
+module _ (is : List ℕ) (w : Worked) (c : List ℕ) (f : HowFar) (c' : List ℕ) (z : Reworked is w c f c') where
   pub reworked-done : (n : ℕ) → f ≡ Ok n → (w ≡ finished c') × (n ≡ length is)
   unfolding far_of card_of
   reworked-done n e = by_cases w (sym e ∙ z.far) z.card
@@ -29,7 +28,7 @@ module _ (is : List ℕ) (w : Worked) (c : List ℕ) (f : Result ℕ Refusal) (c
       by_cases (refused a) e q = absurd (rows-not-refused e)
 
   -- what a refusal is, and that it kept the card
-  pub reworked-refused : (a : Answer) → f ≡ Err a → (w ≡ refused a) × (c' ≡ c)
+  pub reworked-refused : (a : Refusal) → f ≡ Err a → (w ≡ refused a) × (c' ≡ c)
   unfolding far_of card_of
   reworked-refused a e = by_cases w (sym e ∙ z.far) z.card
     where

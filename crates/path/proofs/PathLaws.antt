@@ -1,14 +1,15 @@
 -- A path ascends, holds the feeding row of each of its rows, and is the row itself and then the path of its feeding row.
+use Rattle.std.proofs.Common.{Option, Some, None}
 use mathlib.Core.Path.{◌≡◌, refl, sym, ap, ◌∙◌}
-use mathlib.Core.Bool.{Bool, true, false, cond, ◌&&◌, ◌||◌, or-false, or-true}
+use mathlib.Core.Bool.{Bool, true, false, cond, ◌||◌, or-false, or-true}
 use mathlib.Core.Logic.{⊎_elim}
 use mathlib.Core.List.{List, [], ◌∷◌}
 use Prim.Native.Nat.{ℕ, zero, suc, ◌+◌, ◌-◌, ◌≤◌, ◌<◌}
 use native.Mathlib.Omega.{arith}
-use lib.Dec.{eqb, ltb}
+use lib.Dec.{eqb}
 use lib.ListN.{length}
-use borrow.Author.Tests.{eqb-true, eqb-false, eq-eqb, ne_eqb, lt-ltb, le-ltb, ltb-true}
-use Rattle.fold.proofs.BoolLaws.{passes-or-fails, fails}
+use borrow.Author.Tests.{eqb-true, eqb-false, eq-eqb, ne_eqb}
+use Rattle.fold.proofs.BoolLaws.{passes-or-fails, fails, zero-not-one}
 use Rattle.layout.specs.Fields.{at_feeder}
 use Rattle.layout.specs.List.{rows, field}
 use Rattle.rows.specs.InRange.{Feeds}
@@ -21,13 +22,13 @@ pub record Climbs (l : List ℕ) (i : ℕ) : Type 0 where
   pub within : field l i at_feeder - 1 < rows l
 
 module _ (l : List ℕ) (i f : ℕ) (e : f ≡ field l i at_feeder) where
-  pub above-source : f ≡ 0 → rows l ≡ above_of l i
+  pub above-source : f ≡ 0 → None ≡ above_of l i
   unfolding above_of
   above-source z = rw (eq-eqb (field l i at_feeder) 0 (sym e ∙ z))
 
-  pub above-fed : (f ≡ 0 → ⊥) → f - 1 ≡ above_of l i
+  pub above-fed : (f ≡ 0 → ⊥) → Some (f - 1) ≡ above_of l i
   unfolding above_of
-  above-fed n = rw (ne_eqb (field l i at_feeder) 0 (λ z. n (e ∙ z))) (ap (λ (x : ℕ). x - 1) e)
+  above-fed n = rw (ne_eqb (field l i at_feeder) 0 (λ z. n (e ∙ z))) (ap (λ (x : ℕ). Some (x - 1)) e)
 
 pub path-length : (l : List ℕ) (i : ℕ) → length (path_of l i) ≤ rows l
 unfolding path_of path_from
@@ -133,12 +134,10 @@ module _ (l : List ℕ) (b : Feeds l) where
   pub off-below : (i j : ℕ) → i < rows l → j < i → on_path l i j ≡ false
   off-below i j h b = fails (on_path l i j) (λ o. omega (arith, on-above i j h o))
 
-  -- row j is on the path of row x, where x is a row
-  abbrev pub on_from : ℕ → ℕ → Bool
-  on_from x j = ltb x (rows l) && on_path l x j
-
-  pub on-from : (i j : ℕ) → i < rows l → on_path l i j ≡ on_from i j
-  on-from i j h = rw (lt-ltb i (rows l) h)
+  -- row j is on the path of row x, if there is one
+  abbrev pub on_from : Option ℕ → ℕ → Bool
+  on_from (Some x) j = on_path l x j
+  on_from None j = false
 
   -- the rows of a path above row i are those of the path of its feeding row
   pub on-next : (i j : ℕ) → i < rows l → i < j → on_path l i j ≡ on_from (above_of l i) j
@@ -146,17 +145,24 @@ module _ (l : List ℕ) (b : Feeds l) where
   on-next i j h g =
       ⊎_elim
       (λ e.
-      on-source i j h (eqb-true (field l i at_feeder) 0 e) ∙ ne_eqb j i (λ q. omega arith) ∙ sym (rw (e, le-ltb (rows l) (rows l) (omega arith))))
+      on-source i j h (eqb-true (field l i at_feeder) 0 e) ∙ ne_eqb j i (λ q. omega arith) ∙ sym (rw e))
       (λ e.
       let n = eqb-false (field l i at_feeder) 0 e in
-      on-fed i j h n ∙ rw (e, ne_eqb j i (λ q. omega arith)) (on-from (field l i at_feeder - 1) j (fed-climbs i h n).within))
+      on-fed i j h n ∙ rw (e, ne_eqb j i (λ q. omega arith)))
       (passes-or-fails (eqb (field l i at_feeder) 0))
 
-  pub off-before : (x j : ℕ) → j < x → on_from x j ≡ false
-  off-before x j b =
-      ⊎_elim (λ e. rw e (off-below x j (ltb-true x (rows l) e) b)) (λ e. rw e) (passes-or-fails (ltb x (rows l)))
+  pub off-before : (x : Option ℕ) (j : ℕ) → ((y : ℕ) → x ≡ Some y → (j < y) × (y < rows l)) → on_from x j ≡ false
+  off-before None j b = refl
+  off-before (Some x) j b = let y = b x refl in off-below x j y.1 y.0
 
-  pub above-above : (i : ℕ) → i < rows l → i < above_of l i
+  pub above-above : (i : ℕ) → i < rows l → (x : ℕ) → above_of l i ≡ Some x → (i < x) × (x < rows l)
   unfolding above_of
-  above-above i h =
-      ⊎_elim (λ e. rw e h) (λ e. rw e (fed-climbs i h (eqb-false (field l i at_feeder) 0 e)).above) (passes-or-fails (eqb (field l i at_feeder) 0))
+  above-above i h x e =
+      ⊎_elim
+      (λ (z : eqb (field l i at_feeder) 0 ≡ true). let q : None ≡ Some x = rw z at e in absurd (zero-not-one cc))
+      (λ (z : eqb (field l i at_feeder) 0 ≡ false).
+      let k = fed-climbs i h (eqb-false (field l i at_feeder) 0 z) in
+      let s : Some (field l i at_feeder - 1) ≡ Some x = rw z at e in
+      let q : field l i at_feeder - 1 ≡ x = cc in
+      rw (← q) (k.above, k.within))
+      (passes-or-fails (eqb (field l i at_feeder) 0))

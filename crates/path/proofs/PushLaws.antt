@@ -1,4 +1,5 @@
 -- A row that is counted as done with the settings found on the card, and what it asks added to the sums, keeps the sums true.
+use Rattle.settle.specs.declared.Fed.{Fed}
 use mathlib.Core.Path.{◌≡◌, ◌∙◌, subst}
 use mathlib.Core.Bool.{Bool, true, false, ◌||◌}
 use mathlib.Core.List.{List}
@@ -17,7 +18,7 @@ use Rattle.rowwise.proofs.WorkingLaws.{has-feeder, work-next}
 
 -- the same rows done, and no more that matter
 pub working-same :
-    (l : List ℕ) (done done' matters matters' : ℕ → Bool) (c s : List ℕ) → ((j : ℕ) → j < rows l → done j ≡ done' j) →
+    (l : List ℕ) (done done' matters matters' : ℕ → Bool) (c : List ℕ) (s : List Fed) → ((j : ℕ) → j < rows l → done j ≡ done' j) →
     ((j : ℕ) → matters' j ≡ true → matters j ≡ true) → Working l done matters c s → Working l done' matters' c s
 working-same l done done' matters matters' c s e f w =
     record {
@@ -36,7 +37,7 @@ working-same l done done' matters matters' c s e f w =
           (max_to-same _ _ (rows l) (λ j h. rw (e j h)));
     }
 
-module _ (l : List ℕ) (done matters : ℕ → Bool) (c s : List ℕ) (w : Working l done matters c s) (i : ℕ) (h : i < rows l)
+module _ (l : List ℕ) (done matters : ℕ → Bool) (c : List ℕ) (s : List Fed) (w : Working l done matters c s) (i : ℕ) (h : i < rows l)
     (to : CardBounded (row_at l i) (card_row_at c i)) where
   pub push-ready : (1 ≤ (row_at l i).feeder → matters ((row_at l i).feeder - 1) ≡ true) → PushReady (row_at l i) (card_row_at c i) s
   push-ready f =

@@ -1,6 +1,6 @@
 -- [01 §2] A row's path: the row itself and then the path of its feeding row. Rows are counted from 0. `OnPath` says it as a
 -- reader would; `path_of` lists the same rows (proofs/OnPathLaws.antt). Definitions only.
-use Rattle.std.specs.Prelude.{◌≡◌, Bool, false, cond, ◌||◌, List, [], ◌∷◌, ℕ, zero, suc, ◌+◌, ◌-◌, eqb}
+use Rattle.std.specs.Prelude.{◌≡◌, Bool, false, cond, ◌||◌, List, [], ◌∷◌, ℕ, zero, suc, ◌+◌, ◌-◌, eqb, Option, Some, None}
 use Rattle.layout.specs.Fields.{at_feeder}
 use Rattle.layout.specs.List.{rows, field}
 
@@ -25,9 +25,9 @@ path_from l (suc n) i =
 unfoldable pub path_of : List ℕ → ℕ → List ℕ
 path_of l i = path_from l (rows l) i
 
--- the row that feeds row i; the number of rows where none does
-unfoldable pub above_of : List ℕ → ℕ → ℕ
-above_of l i = cond (eqb (field l i at_feeder) 0) (rows l) (field l i at_feeder - 1)
+-- the row that feeds row i
+unfoldable pub above_of : List ℕ → ℕ → Option ℕ
+above_of l i = cond (eqb (field l i at_feeder) 0) None (Some (field l i at_feeder - 1))
 
 unfoldable pub has : List ℕ → ℕ → Bool
 has [] j = false

@@ -1,4 +1,5 @@
 -- What the functions of a path ask of their callers, and the shape of their promises. Definitions only.
+use Rattle.settle.specs.declared.Fed.{Fed}
 use Rattle.feeding.specs.declared.Links.{Links}
 use Rattle.answers.specs.Answer.{done}
 use Rattle.answers.specs.declared.Refusal.{Refusal}
@@ -22,13 +23,13 @@ pub record RowReady (l c unrated rated : List ℕ) (j : ℕ) : Type 0 where
   pub rated-is : rated ≡ column_bounds_to 500000
 
 -- every row off the path of row i is done and none on it, the sums hold what is asked of the rows on it, and the links are the list's
-pub record ClimbReady (l : List ℕ) (links : List Links) (i : ℕ) (c s : List ℕ) : Type 0 where
+pub record ClimbReady (l : List ℕ) (links : List Links) (i : ℕ) (c : List ℕ) (s : List Fed) : Type 0 where
   pub is_row : i < rows l
   pub linked : Linked l links
   pub working : Working l (λ j. not (on_path l i j)) (on_path l i) c s
 
 -- what row j asks with the numbers found on the card can be added
-pub record FoundReady (l : List ℕ) (j : ℕ) (c s : List ℕ) : Type 0 where
+pub record FoundReady (l : List ℕ) (j : ℕ) (c : List ℕ) (s : List Fed) : Type 0 where
   pub in_list : j * field_count + field_count ≤ length l
   pub in-card : j * column_count + column_count ≤ length c
   pub push : PushReady (row_at l j) (card_row_at c j) s
@@ -45,14 +46,18 @@ pub record PathReady (l : List ℕ) (i : ℕ) (c : List ℕ) : Type 0 where
   pub rows-tested : rows_test l ≡ done
   pub card-tested : card_test l i c ≡ done
 
--- the same, with sums that are all 0
-pub record RestReady (l : List ℕ) (i : ℕ) (c s : List ℕ) : Type 0 where
+-- the same, with sums that ask nothing
+pub record RestReady (l : List ℕ) (i : ℕ) (c : List ℕ) (s : List Fed) : Type 0 where
   pub is_row : i < rows l
   pub card-tested : card_test l i c ≡ done
   pub unworked : Unworked l c s
 
+-- how far a working out went: so many rows, or refused
+abbrev pub HowFar : Type 0
+HowFar = Result ℕ Refusal
+
 -- how far the rows `is` went, worked out from the card c, and the card after it: refused, it is the card as it was
-unfoldable pub far_of : List ℕ → Worked → Result ℕ Refusal
+unfoldable pub far_of : List ℕ → Worked → HowFar
 far_of is (finished c') = Ok (length is)
 far_of is (refused a) = Err a
 
@@ -60,10 +65,10 @@ unfoldable pub card_of : List ℕ → Worked → List ℕ
 card_of c (finished c') = c'
 card_of c (refused a) = c
 
-pub record Reworked (is : List ℕ) (w : Worked) (c : List ℕ) (f : Result ℕ Refusal) (c' : List ℕ) : Type 0 where
+pub record Reworked (is : List ℕ) (w : Worked) (c : List ℕ) (f : HowFar) (c' : List ℕ) : Type 0 where
   pub far : f ≡ far_of is w
   pub card : c' ≡ card_of c w
 
 -- the rows `is` worked out on the card c
-abbrev pub WorkedOut : List ℕ → List ℕ → List ℕ → Result ℕ Refusal → List ℕ → Type 0
+abbrev pub WorkedOut : List ℕ → List ℕ → List ℕ → HowFar → List ℕ → Type 0
 WorkedOut l is c f c' = Reworked is (work_out l is c) c f c'

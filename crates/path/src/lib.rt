@@ -4,7 +4,6 @@
 
 ghost use Rattle.std.specs.Prelude.{◌≡◌, not, ◌&&◌, ◌+◌, ◌*◌, ◌<◌, ◌≤◌, length};
 ghost use Rattle.layout.specs.Counts.{column_count};
-ghost use Rattle.fold.specs.First.{first};
 ghost use Rattle.layout.specs.Card.{card_row_at, same_card_row};
 ghost use Rattle.layout.specs.List.{rows, row_at};
 ghost use Rattle.rowwise.specs.Sums.{pushed};
@@ -14,33 +13,25 @@ ghost use Rattle.path.specs.Reach.{reach, reach_from};
 ghost use Rattle.path.specs.CardTest.{within_table, card_right, card_test};
 ghost use Rattle.path.specs.Ready.{RowReady, FoundReady, ClimbReady, RestReady, PathReady, WorkedOut};
 
-use answers::{Answer, Tested};
-use feeding::{LINKS, link};
+use answers::Refusal;
+use feeding::{Links, UNLINKED, link};
 use layout::{
-    AT_FEEDER, AT_PRIMARY, COLUMNS, CardRow, FIELDS, card_row_at, column_at, column_bounds,
+    AT_FEEDER, AT_PRIMARY, COLUMNS, CardRow, FIELDS, ROWS, card_row_at, column_at, column_bounds,
     field_at, in_bounds, put_card_row, row_at, same_card_row,
 };
-use rowwise::{SUMS, push, work_rows};
+use rowwise::{push, work_rows};
+use settle::{Fed, NOTHING};
 use sides::{PRIMARY_MOST, SECONDARY_MOST};
-
-// How far a working out went: so many rows, or refused.
-#[derive(Clone, Copy)]
-pub enum HowFar {
-    Rows(u64),
-    Refused(Answer),
-}
 
 // The table goes by reference, as that of the fields does.
 fn within_table(card: &[u64], table: &[u64], j: usize) -> bool
     requires { (j * column_count + column_count ≤ length card.now) × (length table.now ≡ 2 * column_count) }
     ensures { result ≡ within_table table.now card.now j }
 {
-    let mut k = 0;
-    while k < COLUMNS {
+    for k in 0..COLUMNS {
         if !in_bounds(table, k, column_at(card, j, k)) {
             return false;
         }
-        k += 1;
     }
     true
 }
@@ -66,50 +57,37 @@ fn card_right(
     within_table(card, rated, j)
 }
 
-// The first card row out of range.
-fn first_card_wrong(list: &[u64], i: usize, card: &[u64]) -> Option<u64>
+// 9 CARD over all rows ascending, every column of each [02 §1, §3], row i being the replaced one.
+pub fn test_card(list: &[u64], i: usize, card: &[u64]) -> Result<(), Refusal>
     requires { rows list.now * column_count ≤ length card.now }
-    ensures { result ≡ first (λ j. not (card_right list.now i card.now j)) 0 (rows list.now) }
+    ensures { result ≡ card_test list.now i card.now }
 {
     let n = list.len() / FIELDS;
     let unrated = column_bounds(PRIMARY_MOST);
     let rated = column_bounds(SECONDARY_MOST);
-    let mut j = 0;
-    while j < n {
+    for j in 0..n {
         if !card_right(list, i, card, &unrated, &rated, j) {
-            return Some(j as u64);
+            return Err(Refusal::Card((j as u64) + 1));
         }
-        j += 1;
     }
-    None
+    Ok(())
 }
 
-// 9 CARD over all rows ascending, every column of each [02 §1, §3], row i being the replaced one.
-pub fn test_card(list: &[u64], i: usize, card: &[u64]) -> Tested
-    requires { rows list.now * column_count ≤ length card.now }
-    ensures { result ≡ card_test list.now i card.now }
-{
-    match first_card_wrong(list, i, card) {
-        Some(j) => Tested::Refused(Answer::Card(j + 1)),
-        None => Tested::Passed,
-    }
-}
-
-// The row that feeds row j; for the last row, the number of rows.
-fn above(list: &[u64], j: usize) -> usize
+// The row that feeds row j, if one does.
+fn above(list: &[u64], j: usize) -> Option<usize>
     requires { j < rows list.now }
     ensures { result ≡ above_of list.now j }
 {
     let number = field_at(list, j, AT_FEEDER);
     if number == 0 {
-        list.len() / FIELDS
+        None
     } else {
-        (number - 1) as usize
+        Some((number - 1) as usize)
     }
 }
 
 // Adds what row j asks with the numbers found on the card.
-fn push_found(list: &[u64], j: usize, card: &[u64], sums: &mut [u64])
+fn push_found(list: &[u64], j: usize, card: &[u64], sums: &mut [Fed])
     requires { FoundReady list.now j card.now sums.old }
     ensures { sums.new ≡ pushed (row_at list.now j) (card_row_at card.now j) sums.old }
 {
@@ -118,21 +96,18 @@ fn push_found(list: &[u64], j: usize, card: &[u64], sums: &mut [u64])
 }
 
 // Adds what every row off the path of row i asks. The rows of a path ascend: `next` is the next of them.
-fn push_rest(list: &[u64], i: usize, card: &[u64], sums: &mut [u64])
+fn push_rest(list: &[u64], i: usize, card: &[u64], sums: &mut [Fed])
     requires { RestReady list.now i card.now sums.old }
     ensures { Working list.now (λ j. not (on_path list.now i j)) (on_path list.now i)
         card.now sums.new }
 {
-    let n = list.len() / FIELDS;
-    let mut next = i;
-    let mut j = 0;
-    while j < n {
-        if j == next {
+    let mut next = Some(i);
+    for j in 0..list.len() / FIELDS {
+        if next == Some(j) {
             next = above(list, j);
         } else {
             push_found(list, j, card, sums);
         }
-        j += 1;
     }
 }
 
@@ -141,56 +116,50 @@ fn stays(card: &[u64], i: usize, old: CardRow, feeding: bool) -> bool
     requires { i * column_count + column_count ≤ length card.now }
     ensures { result ≡ (feeding && same_card_row old (card_row_at card.now i)) }
 {
-    if !feeding {
-        return false;
-    }
-    same_card_row(old, card_row_at(card, i))
+    feeding && same_card_row(old, card_row_at(card, i))
 }
 
 // Works out row i and then, unless it is a feeding row that comes out as it was, the path of the row that feeds it. A refusal above
 // puts the row's old numbers back. `links` are those of the list.
 fn climb(
     list: &[u64],
-    links: &[u8],
+    links: &[Links],
     i: usize,
     card: &mut [u64],
-    sums: &mut [u64],
+    sums: &mut [Fed],
     feeding: bool,
-) -> HowFar
+) -> Result<u64, Refusal>
     requires { ClimbReady list.now links.now i card.old sums.old }
     ensures { WorkedOut list.now (reach_from list.now feeding (path_of list.now i) card.old)
         card.old result card.new }
 {
     let old = card_row_at(card, i);
-    let own = work_rows(list, links, i, i + 1, card, sums);
-    if let Tested::Refused(a) = own {
-        return HowFar::Refused(a);
-    }
+    work_rows(list, links, i, i + 1, card, sums)?;
     if stays(card, i, old, feeding) {
-        return HowFar::Rows(1); // the stop counts
+        return Ok(1); // the stop counts
     }
     let feeder = field_at(list, i, AT_FEEDER);
     if feeder == 0 {
-        return HowFar::Rows(1);
+        return Ok(1);
     }
     match climb(list, links, (feeder - 1) as usize, card, sums, true) {
-        HowFar::Refused(a) => {
+        Err(a) => {
             put_card_row(card, i, old);
-            HowFar::Refused(a)
+            Err(a)
         }
-        HowFar::Rows(n) => HowFar::Rows(n + 1),
+        Ok(n) => Ok(n + 1),
     }
 }
 
-// Row by row 11, 12 or 13, then 14, then 7 along the path of row i, the replaced one, which never stops the climb. The fed rows are
+// How many rows were worked out, or the refusal: row by row 11, 12 or 13, then 14, then 7 along the path of row i, the replaced one, which never stops the climb. The fed rows are
 // linked once.
-pub fn work_path(list: &[u64], i: usize, card: &mut [u64]) -> HowFar
+pub fn work_path(list: &[u64], i: usize, card: &mut [u64]) -> Result<u64, Refusal>
     requires { PathReady list.now i card.old }
     ensures { WorkedOut list.now (reach list.now i card.old) card.old result card.new }
 {
-    let mut links = [0u8; LINKS];
+    let mut links = [UNLINKED; ROWS];
     link(list, &mut links);
-    let mut sums = [0u64; SUMS];
+    let mut sums = [NOTHING; ROWS];
     push_rest(list, i, card, &mut sums);
     climb(list, &links, i, card, &mut sums, false)
 }

@@ -1,4 +1,4 @@
--- `above` gives the row that feeds row j, or the number of rows: field 2 tells which.
+-- `above` gives the row that feeds row j, if one does: field 2 tells which.
 use Rattle.path.proofs.PathLaws.{above-source, above-fed}
 use Rattle.path.proofs.above.Goals as goal
 

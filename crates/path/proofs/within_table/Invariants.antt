@@ -1,11 +1,6 @@
 -- `within_table` tests one card row against a table: the columns that the loop has passed are right.
-use Prim.Native.Nat.{◌-◌}
-use Rattle.layout.specs.Counts.{column_count}
 use Rattle.path.proofs.CardTestLaws.{Righted}
 use Rattle.path.proofs.within_table.Given as goal
 
 abbrev pub invariant-loop-k : goal.invariant-loop-k
 invariant-loop-k l = Righted l.table l.card l.j l.k
-
-abbrev pub decreases-loop-k : goal.decreases-loop-k
-decreases-loop-k l = column_count - l.k
