@@ -1,5 +1,6 @@
 -- An accepted list and its card: the tests pass, the calculation finishes with the card, and each row of the card stands at
 -- its own least settings, which pass CARD.
+use Rattle.answers.specs.declared.Refusal.{Refusal}
 use Rattle.answers.specs.Answer.{Answer, done}
 use Rattle.std.proofs.Common.{Ok, Err}
 use mathlib.Core.Path.{◌≡◌, refl, sym, ap, ◌∙◌}
@@ -35,7 +36,7 @@ pub record Accepts (l c₀ c : List ℕ) : Type 0 where
   pub tested : rows_test l ≡ done
   pub calculated : calculation l c₀ ≡ finished c
 
-pub calculation-later : (l c : List ℕ) (a : Answer) → on_passed (rows_test l) (calculation l c) ≡ refused a → Later a
+pub calculation-later : (l c : List ℕ) (a : Refusal) → on_passed (rows_test l) (calculation l c) ≡ refused a → Later a
 unfolding calculation
 calculation-later l c = passed-refused _ _ Later (rows-later l) (work-later l _ c)
 
@@ -54,7 +55,7 @@ accepts l c₀ c e = by_size (size_test (length l) (length c₀)) refl
     by_size : (t : Answer) → size_test (length l) (length c₀) ≡ t → Accepts l c₀ c
     by_size (Ok _) s = by-work _ s refl (sym (whole-as l c₀ s) ∙ e)
     by_size (Err a) s =
-        let g : whole l c₀ ≡ record { answer = a; card = c₀ } = rw s in
+        let g : whole l c₀ ≡ record { answer = Err a; card = c₀ } = rw s in
         absurd (refuses-done (size-refuses (length l) (length c₀) a s) (ap (λ (r : Result). r.answer) (sym g ∙ e)))
 
 -- a card row at its own least settings passes CARD

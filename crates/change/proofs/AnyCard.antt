@@ -50,7 +50,7 @@ module _ (l c : List ℕ) (place : ℕ) (row : List ℕ) (p : Passes l c place r
   path-visits e = by_cases (ended l c place row p)
     where
       by_cases : Ended l c place row p → Visits l' (place - 1) c card (replaced l c place row).count
-      by_cases (Ended.done d v) = v
+      by_cases (Ended.worked d v) = v
       by_cases (Ended.refused-by x d z) = absurd (refused-not-done z (sym d ∙ e))
 
   pub visits-exactly :
@@ -91,7 +91,7 @@ module _ (l c : List ℕ) (place : ℕ) (row : List ℕ) (p : Passes l c place r
   path-ended k s w = by_cases (ended l c place row p)
     where
       by_cases : Ended l c place row p → (replaced l c place row).answer ≡ done
-      by_cases (Ended.done d v) = d
+      by_cases (Ended.worked d v) = d
       by_cases (Ended.refused-by x d z) = absurd (ended-not-refused l' p.feeds (place - 1) row-of-it c (λ j h. (p.in-range j h).bounded) k s w z)
 
   pub path-exactly :
@@ -102,14 +102,14 @@ module _ (l c : List ℕ) (place : ℕ) (row : List ℕ) (p : Passes l c place r
   path-accepted k m = by_cases (ended l c place row p)
     where
       by_cases : Ended l c place row p → (replaced l c place row).answer ≡ done
-      by_cases (Ended.done d v) = d
+      by_cases (Ended.worked d v) = d
       by_cases (Ended.refused-by x d z) = absurd (never-refused l' p.feeds (place - 1) row-of-it c k m z)
 
   pub path-refused : ((replaced l c place row).answer ≡ done → ⊥) → PathRefused (made l place row) (place - 1) c (replaced l c place row).answer
   path-refused n = by_cases (ended l c place row p)
     where
       by_cases : Ended l c place row p → PathRefused l' (place - 1) c (replaced l c place row).answer
-      by_cases (Ended.done d v) = absurd (n d)
+      by_cases (Ended.worked d v) = absurd (n d)
       by_cases (Ended.refused-by x d z) = rw d z
 
 -- of any replacement

@@ -3,6 +3,7 @@
 --                         order 2, 3, 10, 4, 5, 9, then 11, 12 or 13, 14, 7 along the path as far as the climb goes, absent; and none otherwise
 --     refused-as-lent     any refusal leaves list and card as they were lent
 -- `replaced` is the definition that the public entry's contract cites (specs/Replace.antt).
+use Rattle.answers.specs.declared.Refusal.{Refusal}
 use Rattle.answers.specs.declared.Refusal.TheVariants.{Count, Room}
 use Rattle.answers.specs.Answer.{Answer, done}
 use Rattle.std.proofs.Common.{Err}
@@ -54,15 +55,15 @@ module _ (l c : List ℕ) (place : ℕ) (row : List ℕ) where
         ap (λ (r : Replaced). r.answer)
         (replaced-edited l c place row (get-size l (length c) (SizeGets.passed f.right-size f.room)) f.edit)
 
-    by_rows : (a : Answer) → RowsGet l' (Err a) → answer ≡ a
+    by_rows : (a : Refusal) → RowsGet l' (Err a) → answer ≡ Err a
     unfolding reworked on_passed outcome
     by_rows a g = goes_on ∙ rw (get_rows l' few g)
 
-    by-card : (a : Answer) → InRange l' → Feeds l' → CardGets l' (place - 1) c (Err a) → answer ≡ a
+    by-card : (a : Refusal) → InRange l' → Feeds l' → CardGets l' (place - 1) c (Err a) → answer ≡ Err a
     unfolding reworked on_passed outcome
     by-card a r b g = goes_on ∙ rw (get_rows l' few (RowsGet.passed r b), get-card l' (place - 1) c g)
 
-  by_size : (a : Answer) → SizeGets l (length c) (Err a) → answer ≡ a
+  by_size : (a : Refusal) → SizeGets l (length c) (Err a) → answer ≡ Err a
   unfolding answer_of
   by_size a g = sym (answer-size l c place row _ a refl (get-size l (length c) g)).answer
 
@@ -70,7 +71,7 @@ module _ (l c : List ℕ) (place : ℕ) (row : List ℕ) where
   by-path a p z = by_cases (ended l c place row p)
     where
       by_cases : Ended l c place row p → answer ≡ a
-      by_cases (Ended.done d v) =
+      by_cases (Ended.worked d v) =
           absurd
           (ended-not-refused l' p.feeds (place - 1) (is_row p.fits) c (λ j h. (p.in-range j h).bounded) (card_row_at (replaced l c place row).card) v.last
           v.worked z)
@@ -96,7 +97,7 @@ module _ (l c : List ℕ) (place : ℕ) (row : List ℕ) where
       given g = subst (ReplacementGets l c place row) (sym (get g)) g
 
       path : (p : Passes l c place row) → Ended l c place row p → ReplacementGets l c place row answer
-      path p (Ended.done d v) = given (ReplacementGets.DONE (card_row_at (replaced l c place row).card) v.last p v.worked)
+      path p (Ended.worked d v) = given (ReplacementGets.DONE (card_row_at (replaced l c place row).card) v.last p v.worked)
       path p (Ended.refused-by x d z) = given (ReplacementGets.UNSETTLED p z)
 
       cards : Fits l c place row → InRange l' → Feeds l' → {t : Answer} → CardGets l' (place - 1) c t → ReplacementGets l c place row answer

@@ -9,8 +9,10 @@
 --     rows-to-visit            [02 §8] done on an accepted list and its card, the count is that of the rows up to the first feeding row,
 --                              after the replaced one, whose card row is the same by the whole calculations of both lists
 -- An accepted list l with its card c: `whole l c₀` is Done with card c, where c₀ is the card as it was lent.
+use Rattle.std.proofs.Common.{Err}
+use Rattle.answers.specs.declared.Refusal.{Refusal}
 use Rattle.answers.specs.declared.Refusal.TheVariants.{Edit}
-use Rattle.answers.specs.Answer.{Answer, done}
+use Rattle.answers.specs.Answer.{done}
 use mathlib.Core.Path.{◌≡◌, refl, sym, ap, ap₂, ◌∙◌, subst}
 use mathlib.Core.Logic.{◌↔◌, ⊎_elim}
 use mathlib.Core.List.{List, [], ◌∷◌}
@@ -42,7 +44,7 @@ use Rattle.change.proofs.AnyCard.{path-visits}
 use Rattle.change.proofs.Demand1.{replacement-gets}
 use Rattle.change.proofs.DoneLaws.{done-passes}
 
-done-not-edit : done ≡ Edit → ⊥
+done-not-edit : done ≡ Err Edit → ⊥
 done-not-edit e = zero-not-one cc
 
 pub demand-3 : (l c₀ c : List ℕ) → whole l c₀ ≡ record { answer = done; card = c } → (series : List Request) → AfterSeries l c₀ c series
@@ -85,7 +87,7 @@ replaced-as-whole l c₀ c g place row f =
   where
     by_cases :
         (w : Worked) → replaced l c place row ≡ outcome l c (put_list l (place - 1) row) (place - 1) w → whole (put_list l (place - 1) row) c₀ ≡ ending c₀ w →
-        (whole (put_list l (place - 1) row) c₀).answer ≡ (whole (put_list l (place - 1) row) c).answer → ((a : Answer) → w ≡ refused a → Refuses a) →
+        (whole (put_list l (place - 1) row) c₀).answer ≡ (whole (put_list l (place - 1) row) c).answer → ((a : Refusal) → w ≡ refused a → Refuses a) →
         AsWhole l c₀ c place row
     by_cases (finished d) r w s n =
         let answer : (replaced l c place row).answer ≡ (whole (put_list l (place - 1) row) c₀).answer = ap (λ (r : Replaced). r.answer) r ∙ sym
@@ -108,16 +110,16 @@ replaced-as-whole l c₀ c g place row f =
         }
 
 pub edit-exactly :
-    (l c : List ℕ) (place : ℕ) (row : List ℕ) → RightSize l → HasRoom l (length c) → ((replaced l c place row).answer ≡ Edit) ↔
+    (l c : List ℕ) (place : ℕ) (row : List ℕ) → RightSize l → HasRoom l (length c) → ((replaced l c place row).answer ≡ Err Edit) ↔
     (EditFits l place row → ⊥)
 unfolding outcome
 edit-exactly l c place row s r = (
   λ e f. by_cases (reworked (put_list l (place - 1) row) (place - 1) c) refl
       (sym (ap (λ (r : Replaced). r.answer) (replaced-edited l c place row (get-size l (length c) (SizeGets.passed s r)) f)) ∙ e),
-  λ n. (replacement-gets l c place row Edit).1 (ReplacementGets.EDIT s r n),
+  λ n. (replacement-gets l c place row (Err Edit)).1 (ReplacementGets.EDIT s r n),
 )
   where
-    by_cases : (w : Worked) → reworked (put_list l (place - 1) row) (place - 1) c ≡ w → (outcome l c (put_list l (place - 1) row) (place - 1) w).answer ≡ Edit → ⊥
+    by_cases : (w : Worked) → reworked (put_list l (place - 1) row) (place - 1) c ≡ w → (outcome l c (put_list l (place - 1) row) (place - 1) w).answer ≡ Err Edit → ⊥
     by_cases (finished d) q e = done-not-edit e
     by_cases (refused a) q e = later-edit (reworked-later (put_list l (place - 1) row) (place - 1) c a q) e
 

@@ -1,6 +1,8 @@
 -- The replacement, one law for each way that it ends.
+use mathlib.Core.Bool.{true, false}
+use Rattle.fold.proofs.BoolLaws.{zero-not-one}
 use Rattle.answers.specs.declared.Refusal.{Refusal}
-use Rattle.std.proofs.Common.{Result, Ok, Err}
+use Rattle.std.proofs.Common.{Ok, Err, is_err}
 use mathlib.Core.Path.{◌≡◌, refl, sym, ap, ◌∙◌, subst}
 use mathlib.Core.List.{List, [], append-nil}
 use Prim.Native.Nat.{ℕ, ◌+◌, ◌-◌, ◌*◌}
@@ -24,12 +26,12 @@ use Rattle.change.proofs.EditLaws.{edit-passed}
 
 -- 4 and 5, 9, then the path
 module _ (l : List ℕ) (i : ℕ) (c : List ℕ) where
-  pub rework-rows : (t : Answer) (a : Answer) → t ≡ rows_test l → t ≡ Err a → Reworked (reach l i c) (reworked l i c) c (Err a) c
+  pub rework-rows : (t : Answer) (a : Refusal) → t ≡ rows_test l → t ≡ Err a → Reworked (reach l i c) (reworked l i c) c (Err a) c
   unfolding reworked on_passed far_of card_of
   rework-rows t a e f = rw (sym e ∙ f) (record { far = refl; card = refl })
 
   module _ (t : Answer) (e : t ≡ rows_test l) (f : t ≡ done) (t' : Answer) (e' : t' ≡ card_test l i c) where
-    pub rework-card : (a : Answer) → t' ≡ Err a → Reworked (reach l i c) (reworked l i c) c (Err a) c
+    pub rework-card : (a : Refusal) → t' ≡ Err a → Reworked (reach l i c) (reworked l i c) c (Err a) c
     unfolding reworked on_passed far_of card_of
     rework-card a f' = rw (sym e ∙ f, sym e' ∙ f') (record { far = refl; card = refl })
 
@@ -40,6 +42,15 @@ module _ (l : List ℕ) (i : ℕ) (c : List ℕ) where
         t' ≡ done → (x : HowFar) (c' : List ℕ) → WorkedOut l (reach l i c) c x c' → Reworked (reach l i c) (reworked l i c) c x c'
     unfolding reworked on_passed
     rework-path f' x c' z = rw (sym e ∙ f, sym e' ∙ f') z
+
+-- whether it is refused
+pub as-refused : (x : HowFar) → is_err x ≡ true → (a : Refusal) × (x ≡ Err a)
+as-refused (Err a) e = (a, refl)
+as-refused (Ok n) e = absurd (zero-not-one cc)
+
+pub as-done : (x : HowFar) → is_err x ≡ false → (n : ℕ) × (x ≡ Ok n)
+as-done (Ok n) e = (n, refl)
+as-done (Err a) e = absurd (zero-not-one cc)
 
 -- the new row is put in
 module _ (l c : List ℕ) (i : ℕ) (row l' : List ℕ) (el : l' ≡ put_list l i row) (x : HowFar) (c' : List ℕ)
@@ -56,7 +67,7 @@ module _ (l c : List ℕ) (i : ℕ) (row l' : List ℕ) (el : l' ≡ put_list l 
 
   -- refused: the old row, which was kept aside in 22 numbers, goes back
   pub exchange-refused :
-      (a : Answer) (y old l'' : List ℕ) → x ≡ Err a → PutReady l i row → length y ≡ field_count →
+      (a : Refusal) (y old l'' : List ℕ) → x ≡ Err a → PutReady l i row → length y ≡ field_count →
       old ≡ put_list y 0 (take (i * field_count + field_count - i * field_count) (drop (i * field_count) l)) → l'' ≡ put_list l' i old → Exchanged
       (exchanged l c i row) (Err a) l'' c'
   unfolding outcome put_list answer_of count_of
@@ -81,12 +92,12 @@ module _ (l c : List ℕ) (i : ℕ) (row l' : List ℕ) (el : l' ≡ put_list l 
 
 -- 2 and 3, then 10
 module _ (l c : List ℕ) (place : ℕ) (row : List ℕ) where
-  pub answer-size : (t : Answer) (a : Answer) → t ≡ size_test (length l) (length c) → t ≡ Err a → Exchanged (replaced l c place row) (Err a) l c
+  pub answer-size : (t : Answer) (a : Refusal) → t ≡ size_test (length l) (length c) → t ≡ Err a → Exchanged (replaced l c place row) (Err a) l c
   unfolding replaced on_passed outcome answer_of count_of
   answer-size t a e f = rw (sym e ∙ f) (record { answer = refl; count = refl; list = refl; card = refl })
 
   module _ (t : Answer) (e : t ≡ size_test (length l) (length c)) (f : t ≡ done) (t' : Answer) (e' : t' ≡ edit_test l place row) where
-    pub answer-edit : (a : Answer) → t' ≡ Err a → Exchanged (replaced l c place row) (Err a) l c
+    pub answer-edit : (a : Refusal) → t' ≡ Err a → Exchanged (replaced l c place row) (Err a) l c
     unfolding replaced on_passed outcome answer_of count_of
     answer-edit a f' = rw (sym e ∙ f, sym e' ∙ f') (record { answer = refl; count = refl; list = refl; card = refl })
 

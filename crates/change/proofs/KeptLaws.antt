@@ -1,4 +1,5 @@
 -- Working out rows writes those rows of the card only; what a replacement that is done has passed.
+use Rattle.answers.specs.declared.Refusal.{Refusal}
 use Rattle.settle.specs.Outcomes.{Settled}
 use Rattle.std.proofs.Common.{Ok, Err}
 use mathlib.Core.Path.{◌≡◌, refl, sym, ap, ◌∙◌}
@@ -10,7 +11,7 @@ use lib.Dec.{eqb}
 use lib.ListN.{length, drop}
 use borrow.Author.Tests.{eq-eqb}
 use Rattle.fold.proofs.BoolLaws.{not-both, or_left, or_right}
-use Rattle.answers.specs.Answer.{number_of, Answer, done}
+use Rattle.answers.specs.Answer.{number_of, done}
 use Rattle.layout.specs.declared.CardRow.{CardRow}
 use Rattle.layout.specs.Card.{card_row_at, put_card_row}
 use Rattle.layout.specs.Counts.{column_count}
@@ -68,7 +69,7 @@ module _ (l c : List ℕ) (place : ℕ) (row : List ℕ) where
   abbrev tried : Worked
   tried = on_passed (size_test (length l) (length c)) (on_passed (edit_test l place row) (reworked (put_list l (place - 1) row) (place - 1) c))
 
-  tried-refuses : (a : Answer) → tried ≡ refused a → Refuses a
+  tried-refuses : (a : Refusal) → tried ≡ refused a → Refuses a
   tried-refuses =
       passed-refused _ _ Refuses (size-refuses (length l) (length c))
       (passed-refused _ _ Refuses (edit-refuses l place row) (λ a e. (reworked-later (put_list l (place - 1) row) (place - 1) c a e).refuses))

@@ -1,4 +1,5 @@
 -- A replacement that passes 2, 3, 10, 4, 5 and 9 comes down to its path, worked out on the card as it is found; how that ends.
+use Rattle.std.proofs.Common.{Err}
 use Rattle.answers.specs.Answer.{Answer, done}
 use mathlib.Core.Path.{◌≡◌, ap, ◌∙◌}
 use mathlib.Core.List.{List}
@@ -61,7 +62,7 @@ module _ (l c : List ℕ) (place : ℕ) (row : List ℕ) (p : Passes l c place r
 
   -- how it ends
   pub data Ended : Type 0 where
-    done :
+    worked :
         (replaced l c place row).answer ≡ done →
         Visits (made l place row) (place - 1) c (card_row_at (replaced l c place row).card) (replaced l c place row).count → Ended
     refused-by : (x : Answer) → (replaced l c place row).answer ≡ x → PathRefused (made l place row) (place - 1) c x → Ended
@@ -74,6 +75,6 @@ module _ (l c : List ℕ) (place : ℕ) (row : List ℕ) (p : Passes l c place r
           {w : Worked} → Climbed l' (place - 1) c (place - 1) (reach l' (place - 1) c) w →
           replaced l c place row ≡ outcome l c l' (place - 1) w → Ended
       by_cases (Climbed.worked-to c' s w n) e =
-          done (ap (λ (r : Replaced). r.answer) e)
+          worked (ap (λ (r : Replaced). r.answer) e)
           (rw e (record { last = s; worked = w; counted = n }))
-      by_cases (Climbed.refused-by x z) e = refused-by x (ap (λ (r : Replaced). r.answer) e) z
+      by_cases (Climbed.refused-by x z) e = refused-by (Err x) (ap (λ (r : Replaced). r.answer) e) z

@@ -1,21 +1,21 @@
 -- Along a path, with the numbers found off it: where some settings meet every condition no row is refused, the row at which the climb
 -- ends is one only, and so are the row and the reason of a refusal.
+use Rattle.settle.specs.Outcomes.{Settled}
 use Rattle.answers.specs.declared.Refusal.TheVariants.{Unsettled}
 use Rattle.answers.specs.Answer.{Answer}
 use Rattle.std.proofs.Common.{Ok, Err}
-use mathlib.Core.Path.{◌≡◌, refl, sym, ap, ◌∙◌}
+use mathlib.Core.Path.{◌≡◌, refl, sym, ◌∙◌}
 use mathlib.Core.Bool.{true, false}
 use mathlib.Core.Logic.{⊎_elim}
 use mathlib.Core.List.{List}
 use Prim.Native.Nat.{ℕ, suc, ◌+◌, ◌≤◌, ◌<◌}
-use native.Mathlib.Nat.{eq-or-lt_of_le, le_antisymm}
+use native.Mathlib.Nat.{eq-or-lt_of_le}
 use native.Mathlib.Omega.{arith}
-use borrow.Author.Tests.{eq-eqb}
 use Rattle.fold.proofs.BoolLaws.{passes-or-fails, lt-or-le, zero-not-one}
 use Rattle.answers.specs.declared.Reason.{Reason}
 use Rattle.answers.specs.declared.Reason.TheVariants.{Pickup, Curve, Delay}
 use Rattle.layout.specs.Fields.{at_feeder}
-use Rattle.layout.specs.List.{rows, field, row_at}
+use Rattle.layout.specs.List.{rows, field}
 use Rattle.layout.specs.Range.{AllBounded}
 use Rattle.layout.specs.View.{view_of, Settings}
 use Rattle.rows.specs.InRange.{Feeds}
@@ -35,10 +35,10 @@ in_order : {P : Type 0} (a b : ℕ) → (a < b → P) → (a ≡ b → P) → (b
 in_order a b f g h = ⊎_elim f (λ (q : b ≤ a). ⊎_elim (λ (e : b ≡ a). g (sym e)) h (eq-or-lt_of_le q)) (lt-or-le a b)
 
 -- no outcome is two things at once
-never-set : {why : Reason} {o : Outcome} → Err why ≡ Ok o → ⊥
+never-set : {why : Reason} {o : Outcome} → ◌≡◌ {A = Settled} (Err why) (Ok o) → ⊥
 never-set e = zero-not-one cc
 
-same-reason : {why why' : Reason} → Err why ≡ Err why' → why ≡ why'
+same-reason : {why why' : Reason} → ◌≡◌ {A = Settled} (Err why) (Err why') → why ≡ why'
 same-reason e = cc
 
 module _ (l : List ℕ) (b : Feeds l) (i : ℕ) (h : i < rows l) (c : List ℕ) where
@@ -80,7 +80,7 @@ module _ (l : List ℕ) (b : Feeds l) (i : ℕ) (h : i < rows l) (c : List ℕ) 
     why : Reason
     next : PathUpTo l i c settings row
     unset : settled (view_of l) settings row ≡ Err why
-    answer : x ≡ Unsettled (row + 1) why
+    answer : x ≡ Err (Unsettled (row + 1) why)
 
   unsettles : AllBounded (view_of l) → {x : Answer} → PathRefused l i c x → Unsettles x
   unsettles a (NO-PICKUP k j why u n) =
@@ -176,6 +176,6 @@ module _ (l : List ℕ) (b : Feeds l) (i : ℕ) (h : i < rows l) (c : List ℕ) 
       let unset' : settled (view_of l) r'.settings r.row ≡ Err r'.why = rw e r'.unset in
       let same = same-reason
       (sym r.unset ∙ settles-alike r.settings r'.settings r.row (row_within r.next) (up_to r.next) (up_to next') ∙ unset') in
-      λ t. Unsettled (e t + 1) (same t))
+      λ t. Err (Unsettled (e t + 1) (same t)))
       (λ g. absurd (not_least a r'.settings r.settings r'.row r'.next r'.unset (fewer (suc r'.row) r.row g (up_to r.next)))) ∙
       sym r'.answer

@@ -1,6 +1,6 @@
 -- One row of a climb on any card: what holds where it is next, and what it comes to there, refused, the last one or passed.
+use Rattle.answers.specs.declared.Refusal.{Refusal}
 use Rattle.answers.specs.declared.Refusal.TheVariants.{Unsettled}
-use Rattle.answers.specs.Answer.{Answer}
 use Rattle.std.proofs.Common.{Ok, Err}
 use mathlib.Core.Path.{◌≡◌, sym, ◌∙◌}
 use mathlib.Core.Bool.{true, false}
@@ -49,7 +49,7 @@ pub record IsNext (l : List ℕ) (i : ℕ) (c₀ c : List ℕ) (x : ℕ) : Type 
 -- how it ends, from row x on, with the rows `is` worked out
 pub data Climbed (l : List ℕ) (i : ℕ) (c₀ : List ℕ) (x : ℕ) (is : List ℕ) : Worked → Type 0 where
   worked-to : (c : List ℕ) (s : ℕ) → WorkedTo l i c₀ (card_row_at c) s → Nth l x (length is) s → Climbed l i c₀ x is (finished c)
-  refused-by : (a : Answer) → PathRefused l i c₀ a → Climbed l i c₀ x is (refused a)
+  refused-by : (a : Refusal) → PathRefused l i c₀ (Err a) → Climbed l i c₀ x is (refused a)
 
 module _ (l : List ℕ) (a : AllBounded (view_of l)) (b : Feeds l) (i : ℕ) (h : i < rows l) (c₀ : List ℕ) where
   on : {j : ℕ} → OnPath l i j → on_path l i j ≡ true
@@ -78,7 +78,7 @@ module _ (l : List ℕ) (a : AllBounded (view_of l)) (b : Feeds l) (i : ℕ) (h 
     pub unsettled : (is : List ℕ) (why : Reason) → settled (view_of l) (card_row_at c) x ≡ Err why → Climbed l i c₀ x is (refused (Unsettled (x + 1) why))
     unsettled is why e = refused-by (Unsettled (x + 1) why) (by-reason why e)
       where
-        by-reason : (why : Reason) → settled (view_of l) (card_row_at c) x ≡ Err why → PathRefused l i c₀ (Unsettled (x + 1) why)
+        by-reason : (why : Reason) → settled (view_of l) (card_row_at c) x ≡ Err why → PathRefused l i c₀ (Err (Unsettled (x + 1) why))
         by-reason (Pickup why) e =
             NO-PICKUP (card_row_at c) x why up_to
             ((no-pickup-exactly (view_of l) (card_row_at c) x (a x r.within) why).0 e)

@@ -1,4 +1,5 @@
--- What a refusal is: no test and no working out refuses with Done, and only EDIT's own test with Edit.
+-- What a refusal is: none has the number of DONE, and only EDIT's own test gives that of EDIT.
+use Rattle.answers.specs.declared.Refusal.{Refusal}
 use Rattle.settle.specs.Outcomes.{Settled}
 use Rattle.answers.specs.declared.Refusal.TheVariants.{Count, Room, Edit}
 use Rattle.std.proofs.Common.{Option, Some, None, Ok, Err}
@@ -23,25 +24,25 @@ use Rattle.change.specs.Replace.{reworked}
 use Rattle.path.specs.CardTest.{card_test, card_answer}
 
 -- a refusal: its number is not 0
-pub record Refuses (a : Answer) : Type 0 where
-  pub not_done : eqb (number_of a) 0 ≡ false
+pub record Refuses (a : Refusal) : Type 0 where
+  pub not_done : eqb (number_of (Err a)) 0 ≡ false
 
 -- a refusal other than EDIT
-pub record Later (a : Answer) : Type 0 where
+pub record Later (a : Refusal) : Type 0 where
   pub refuses : Refuses a
-  pub not-edit : eqb (number_of a) 10 ≡ false
+  pub not-edit : eqb (number_of (Err a)) 10 ≡ false
 
-pub refuses-done : {a : Answer} → Refuses a → a ≡ done → ⊥
+pub refuses-done : {a : Refusal} → Refuses a → Err a ≡ done → ⊥
 refuses-done r e =
     let z : true ≡ false = sym (ap (λ (a : Answer). eqb (number_of a) 0) e) ∙ r.not_done in
     mathlib.Core.Bool.true≢false z
 
-pub later-edit : {a : Answer} → Later a → a ≡ Edit → ⊥
+pub later-edit : {a : Refusal} → Later a → ◌≡◌ {A = Answer} (Err a) (Err Edit) → ⊥
 later-edit r e =
     let z : true ≡ false = sym (ap (λ (a : Answer). eqb (number_of a) 10) e) ∙ r.not-edit in
     mathlib.Core.Bool.true≢false z
 
-pub size-refuses : (len room : ℕ) (a : Answer) → size_test len room ≡ Err a → Refuses a
+pub size-refuses : (len room : ℕ) (a : Refusal) → size_test len room ≡ Err a → Refuses a
 unfolding size_test
 size-refuses len room a = by_cases (eqb (len % field_count) 0 && (leb field_count len && leb len list_most)) (leb (column_count * (len / field_count)) room)
   where
@@ -50,7 +51,7 @@ size-refuses len room a = by_cases (eqb (len % field_count) 0 && (leb field_coun
     by_cases true false e = subst Refuses (same_answer e) (record { not_done = refl })
     by_cases false y e = subst Refuses (same_answer e) (record { not_done = refl })
 
-pub edit-refuses : (l : List ℕ) (place : ℕ) (row : List ℕ) (a : Answer) → edit_test l place row ≡ Err a → Refuses a
+pub edit-refuses : (l : List ℕ) (place : ℕ) (row : List ℕ) (a : Refusal) → edit_test l place row ≡ Err a → Refuses a
 unfolding edit_test
 edit-refuses l place row a = by_cases (edit_right l place row)
   where
@@ -58,7 +59,7 @@ edit-refuses l place row a = by_cases (edit_right l place row)
     by_cases true e = absurd (never-passed e)
     by_cases false e = subst Refuses (same_answer e) (record { not_done = refl })
 
-pub rows-later : (l : List ℕ) (a : Answer) → rows_test l ≡ Err a → Later a
+pub rows-later : (l : List ℕ) (a : Refusal) → rows_test l ≡ Err a → Later a
 unfolding rows_test tree_test field_answer tree_answer
 rows-later l a = by_cases (first _ 0 _) (first _ 0 _)
   where
@@ -67,7 +68,7 @@ rows-later l a = by_cases (first _ 0 _) (first _ 0 _)
     by_cases None (Some i) e = subst Later (same_answer e) (record { refuses = record { not_done = refl }; not-edit = refl })
     by_cases None None e = absurd (never-passed e)
 
-card-later : (l : List ℕ) (i : ℕ) (c : List ℕ) (a : Answer) → card_test l i c ≡ Err a → Later a
+card-later : (l : List ℕ) (i : ℕ) (c : List ℕ) (a : Refusal) → card_test l i c ≡ Err a → Later a
 unfolding card_test card_answer
 card-later l i c a = by_cases (first _ 0 _)
   where
@@ -75,7 +76,7 @@ card-later l i c a = by_cases (first _ 0 _)
     by_cases (Some i) e = subst Later (same_answer e) (record { refuses = record { not_done = refl }; not-edit = refl })
     by_cases None e = absurd (never-passed e)
 
-pub work-later : (l is c : List ℕ) (a : Answer) → work_out l is c ≡ refused a → Later a
+pub work-later : (l is c : List ℕ) (a : Refusal) → work_out l is c ≡ refused a → Later a
 unfolding work_out on_settled
 work-later l [] c a e = absurd (never-finished (sym e))
 work-later l (i ∷ is) c a e = by_cases (settled (view_of l) (card_row_at c) i) e (λ k. work-later l is (put_card_row c i k) a)
@@ -90,7 +91,7 @@ work-later l (i ∷ is) c a e = by_cases (settled (view_of l) (card_row_at c) i)
 -- a refusal after a test is the test's or what comes next's
 module _ (t : Answer) (w : Worked) where
   pub passed-refused :
-      (P : Answer → Type 0) → ((a : Answer) → t ≡ Err a → P a) → ((a : Answer) → w ≡ refused a → P a) → (a : Answer) →
+      (P : Refusal → Type 0) → ((a : Refusal) → t ≡ Err a → P a) → ((a : Refusal) → w ≡ refused a → P a) → (a : Refusal) →
       on_passed t w ≡ refused a →
       P a
   unfolding on_passed
@@ -108,7 +109,7 @@ module _ (t : Answer) (w : Worked) where
       by_cases (Ok _) e = (refl, e)
       by_cases (Err b) e = absurd (never-finished e)
 
-pub reworked-later : (l : List ℕ) (i : ℕ) (c : List ℕ) (a : Answer) → reworked l i c ≡ refused a → Later a
+pub reworked-later : (l : List ℕ) (i : ℕ) (c : List ℕ) (a : Refusal) → reworked l i c ≡ refused a → Later a
 unfolding reworked
 reworked-later l i c =
     passed-refused _ _ Later (rows-later l) (passed-refused _ _ Later (card-later l i c) (work-later l _ c))

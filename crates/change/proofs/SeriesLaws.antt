@@ -1,5 +1,6 @@
 -- One replacement on an accepted list and its card, beside one entry of the ledger: the same answer, the same list, and list
 -- and card accepted again.
+use Rattle.answers.specs.declared.Refusal.{Refusal}
 use Rattle.answers.specs.declared.Refusal.TheVariants.{Edit}
 use Rattle.answers.specs.Answer.{Answer, done}
 use Rattle.std.proofs.Common.{Ok, Err}
@@ -58,7 +59,7 @@ edit-cases l place row f g = ⊎_elim (λ e. f (edit-fits l place row e) e) g (p
 -- EDIT applies
 pub replaced-edit :
     (l c : List ℕ) (place : ℕ) (row : List ℕ) → size_test (length l) (length c) ≡ done → edit_right l place row ≡ false →
-    replaced l c place row ≡ record { answer = Edit; list = l; card = c; count = 0 }
+    replaced l c place row ≡ record { answer = Err Edit; list = l; card = c; count = 0 }
 unfolding replaced on_passed outcome
 replaced-edit l c place row s e = rw (s, sym (edit-refuses l place row (λ f. not-both (fits-edit l place row f) e)))
 
@@ -91,7 +92,7 @@ module _ (l c₀ c : List ℕ) (x : Accepts l c₀ c) where
     pub made-answer : (whole (put_list l (place - 1) row) c₀).answer ≡ (whole (put_list l (place - 1) row) c).answer
     made-answer = answer-same (put_list l (place - 1) row) c₀ c made-size (rw (edited-length l place row f) size-again)
 
-    pub made-refuses : (a : Answer) → made ≡ refused a → Refuses a
+    pub made-refuses : (a : Refusal) → made ≡ refused a → Refuses a
     made-refuses a e = (calculation-later (put_list l (place - 1) row) c₀ a e).refuses
 
     -- the ledger's own room serves as well

@@ -4,7 +4,7 @@
 -- the card as it is found, k the settings of every row. The rows of a path ascend. Rows are counted from 0. Definitions only.
 use Rattle.answers.specs.declared.Refusal.TheVariants.{Unsettled}
 use Rattle.answers.specs.Answer.{Answer}
-use Rattle.std.specs.Prelude.{◌≡◌, ◌⊎◌, List, ℕ, ◌+◌, ◌≤◌, ◌<◌}
+use Rattle.std.specs.Prelude.{◌≡◌, ◌⊎◌, List, ℕ, ◌+◌, ◌≤◌, ◌<◌, Err}
 use Rattle.answers.specs.declared.Cause.{Cause}
 use Rattle.answers.specs.declared.Reason.TheVariants.{Pickup, Curve, Delay}
 use Rattle.layout.specs.Card.{card_row_at}
@@ -51,13 +51,13 @@ pub record PathUpTo (l : List ℕ) (i : ℕ) (c : List ℕ) (k : Settings) (j : 
 pub data PathRefused (l : List ℕ) (i : ℕ) (c : List ℕ) : Answer → Type 0 where
   NO-PICKUP :
       (k : Settings) (j : ℕ) (why : Cause) → PathUpTo l i c k j → CauseIs (view_of l) k j why →
-      PathRefused l i c (Unsettled (j + 1) (Pickup why))
+      PathRefused l i c (Err (Unsettled (j + 1) (Pickup why)))
   CURVE :
       (k : Settings) (j : ℕ) (x : Secondary) (place : ℕ) → PathUpTo l i c k j → LeastPickup (view_of l) k j x →
-      CurveIs (view_of l) k j (primary_of (row_at l j) x) place → PathRefused l i c (Unsettled (j + 1) (Curve place))
+      CurveIs (view_of l) k j (primary_of (row_at l j) x) place → PathRefused l i c (Err (Unsettled (j + 1) (Curve place)))
   DELAY :
       (k : Settings) (j : ℕ) (x : Secondary) → PathUpTo l i c k j → LeastPickup (view_of l) k j x → Runs (view_of l) k j (primary_of (row_at l j) x) →
-      NoTime (view_of l) k j (primary_of (row_at l j) x) → PathRefused l i c (Unsettled (j + 1) Delay)
+      NoTime (view_of l) k j (primary_of (row_at l j) x) → PathRefused l i c (Err (Unsettled (j + 1) Delay))
 
 -- the climb ends at the row `last` of the path: the rows up to it are at their least settings; it is the first feeding row, after the
 -- replaced one, whose new card row equals its old one, or there is none and the source feeds it; the rows past it keep what they had

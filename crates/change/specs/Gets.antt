@@ -4,7 +4,7 @@
 -- answers from 1. Definitions only.
 use Rattle.answers.specs.declared.Refusal.TheVariants.{Count, Room, Field, Tree, Card, Edit}
 use Rattle.answers.specs.Answer.{Answer, done}
-use Rattle.std.specs.Prelude.{List, ℕ, ◌+◌, ◌-◌, length}
+use Rattle.std.specs.Prelude.{List, ℕ, ◌+◌, ◌-◌, length, Err}
 use Rattle.layout.specs.View.{Settings}
 use Rattle.path.specs.CardTest.{CardInRange, FirstCardOut}
 use Rattle.rows.specs.InRange.{RightSize, HasRoom, InRange, Feeds, FirstOutOfRange, FirstMisfed}
@@ -29,17 +29,17 @@ pub record Passes (l c : List ℕ) (place : ℕ) (row : List ℕ) : Type 0 where
   pub card : CardInRange (made l place row) (place - 1) c
 
 pub data ReplacementGets (l c : List ℕ) (place : ℕ) (row : List ℕ) : Answer → Type 0 where
-  COUNT : (RightSize l → ⊥) → ReplacementGets l c place row Count
-  ROOM : RightSize l → (HasRoom l (length c) → ⊥) → ReplacementGets l c place row Room
-  EDIT : RightSize l → HasRoom l (length c) → (EditFits l place row → ⊥) → ReplacementGets l c place row Edit
+  COUNT : (RightSize l → ⊥) → ReplacementGets l c place row (Err Count)
+  ROOM : RightSize l → (HasRoom l (length c) → ⊥) → ReplacementGets l c place row (Err Room)
+  EDIT : RightSize l → HasRoom l (length c) → (EditFits l place row → ⊥) → ReplacementGets l c place row (Err Edit)
   FIELD :
-      (i k : ℕ) → Fits l c place row → FirstOutOfRange (made l place row) i k → ReplacementGets l c place row (Field (i + 1) (k + 1))
+      (i k : ℕ) → Fits l c place row → FirstOutOfRange (made l place row) i k → ReplacementGets l c place row (Err (Field (i + 1) (k + 1)))
   TREE :
       (i : ℕ) → Fits l c place row → InRange (made l place row) → FirstMisfed (made l place row) i →
-      ReplacementGets l c place row (Tree (i + 1))
+      ReplacementGets l c place row (Err (Tree (i + 1)))
   CARD :
       (i : ℕ) → Fits l c place row → InRange (made l place row) → Feeds (made l place row) → FirstCardOut (made l place row) (place - 1) c i →
-      ReplacementGets l c place row (Card (i + 1))
+      ReplacementGets l c place row (Err (Card (i + 1)))
   UNSETTLED :
       {a : Answer} → Passes l c place row → PathRefused (made l place row) (place - 1) c a → ReplacementGets l c place row a
   DONE :

@@ -1,6 +1,5 @@
 -- What the functions of a replacement ask of their callers, and the shape of their promises. Definitions only.
-use Rattle.answers.specs.declared.Refusal.{Refusal}
-use Rattle.std.specs.Prelude.{◌≡◌, List, ℕ, length, Result, Ok, Err}
+use Rattle.std.specs.Prelude.{◌≡◌, List, ℕ, length, Ok, Err}
 use Rattle.layout.specs.Counts.{field_count}
 use Rattle.answers.specs.Answer.{given_by, Answer, done}
 use Rattle.path.specs.Ready.{ReworkReady, HowFar}
@@ -18,7 +17,7 @@ exchanged l c i row = outcome l c (put_list l i row) i (reworked (put_list l i r
 -- the answer of a working out, and the count of its rows
 unfoldable pub answer_of : HowFar → Answer
 answer_of (Ok n) = done
-answer_of (Err a) = a
+answer_of (Err a) = Err a
 
 unfoldable pub count_of : HowFar → ℕ
 count_of (Ok n) = n

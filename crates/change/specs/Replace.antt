@@ -3,7 +3,7 @@
 -- all rows, then 11, 12 or 13 before 14 and 14 before 7 along the path as far as the change goes, the other card rows read as they are found. A
 -- refusal leaves list and card, and counts no row. Definitions only.
 use Rattle.answers.specs.Answer.{Answer, done}
-use Rattle.std.specs.Prelude.{List, ℕ, ◌-◌, length}
+use Rattle.std.specs.Prelude.{List, ℕ, ◌-◌, length, Err}
 use Rattle.rows.specs.Tests.{size_test, rows_test}
 use Rattle.rowwise.specs.WorkOut.{Worked, finished, refused, work_out, on_passed}
 use Rattle.change.specs.Edit.{put_list, edit_test}
@@ -24,7 +24,7 @@ pub record Replaced : Type 0 where
 -- the old ones
 unfoldable pub outcome : List ℕ → List ℕ → List ℕ → ℕ → Worked → Replaced
 outcome l c l' i (finished c') = record { answer = done; list = l'; card = c'; count = length (reach l' i c) }
-outcome l c l' i (refused a) = record { answer = a; list = l; card = c; count = 0 }
+outcome l c l' i (refused a) = record { answer = Err a; list = l; card = c; count = 0 }
 
 unfoldable pub replaced : List ℕ → List ℕ → ℕ → List ℕ → Replaced
 replaced l c place row =

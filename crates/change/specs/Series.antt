@@ -1,6 +1,6 @@
 -- [01 §4] A series of replacements, and the plain ledger that it is compared with. Definitions only.
 use Rattle.answers.specs.declared.Refusal.TheVariants.{Edit}
-use Rattle.std.specs.Prelude.{cond, List, [], ◌∷◌, ℕ, ◌-◌, ◌*◌, eqb, replicate}
+use Rattle.std.specs.Prelude.{cond, List, [], ◌∷◌, ℕ, ◌-◌, ◌*◌, eqb, replicate, Err}
 use Rattle.layout.specs.Counts.{column_count}
 use Rattle.answers.specs.Answer.{number_of, Answer}
 use Rattle.layout.specs.List.{rows}
@@ -44,11 +44,11 @@ calculated l = (whole l (replicate (rows l * column_count) 0)).answer
 unfoldable pub kept : List ℕ → List ℕ → Answer → Entry
 kept l l' a = record { answer = a; list = cond (eqb (number_of a) 0) l' l }
 
--- where EDIT applies, Edit; otherwise the whole calculation of the list with the new row in
+-- where EDIT applies, EDIT; otherwise the whole calculation of the list with the new row in
 unfoldable pub entered : List ℕ → ℕ → List ℕ → Entry
 entered l place row =
     let l' = put_list l (place - 1) row in
-    cond (edit_right l place row) (kept l l' (calculated l')) (record { answer = Edit; list = l })
+    cond (edit_right l place row) (kept l l' (calculated l')) (record { answer = Err Edit; list = l })
 
 unfoldable pub ledger : List ℕ → List Request → Ledger
 ledger l [] = record { answers = []; list = l }

@@ -2,7 +2,7 @@
 ghost use Rattle.std.specs.Prelude.{◌≡◌};
 ghost use Rattle.change.specs.Edit.{put_list, edit_test, PutReady};
 
-use answers::{Answer, Tested};
+use answers::Refusal;
 use blocks::put;
 use layout::{AT_FEEDER, FIELDS, field_at};
 
@@ -15,24 +15,24 @@ pub(crate) fn put_list(list: &mut [u64], i: usize, row: &[u64])
 }
 
 // 10 EDIT.
-pub(crate) fn test_edit(list: &[u64], place: u64, row: &[u64]) -> Tested
+pub(crate) fn test_edit(list: &[u64], place: u64, row: &[u64]) -> Result<(), Refusal>
     ensures { result ≡ edit_test list.now place row.now }
 {
     let n = list.len() / FIELDS;
     if place < 1 {
-        return Tested::Refused(Answer::Edit);
+        return Err(Refusal::Edit);
     }
     if (n as u64) < place {
-        return Tested::Refused(Answer::Edit);
+        return Err(Refusal::Edit);
     }
     if row.len() != FIELDS {
-        return Tested::Refused(Answer::Edit);
+        return Err(Refusal::Edit);
     }
     if row[0] != place {
-        return Tested::Refused(Answer::Edit);
+        return Err(Refusal::Edit);
     }
     if row[AT_FEEDER] != field_at(list, (place - 1) as usize, AT_FEEDER) {
-        return Tested::Refused(Answer::Edit);
+        return Err(Refusal::Edit);
     }
-    Tested::Passed
+    Ok(())
 }

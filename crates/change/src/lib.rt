@@ -8,10 +8,10 @@ ghost use Rattle.path.specs.Reach.{reach};
 ghost use Rattle.change.specs.Ready.{ExchangeReady, exchanged, Exchanged, Gave};
 ghost use Rattle.change.specs.Replace.{reworked, replaced};
 
-use answers::{Answer, NUMBERS, Tested, numbers};
+use answers::{NUMBERS, Refusal, numbers};
 use edit::{put_list, test_edit};
 use layout::FIELDS;
-use path::{HowFar, test_card, work_path};
+use path::{test_card, work_path};
 use rows::{test_rows, test_size};
 
 // What a replacement gives back: section 4's numbers, and how many rows were worked out, 0 on a refusal.
@@ -22,24 +22,18 @@ pub struct Replacement {
 }
 
 // Row i of the list is new: 4, 5, 9, then 11, 12 or 13 before 14 and 14 before 7 along the rows worked out.
-fn rework(list: &[u64], i: usize, card: &mut [u64]) -> HowFar
+fn rework(list: &[u64], i: usize, card: &mut [u64]) -> Result<u64, Refusal>
     requires { ReworkReady list.now i card.old }
     ensures { Reworked (reach list.now i card.old) (reworked list.now i card.old)
         card.old result card.new }
 {
-    let tested = test_rows(list);
-    if let Tested::Refused(a) = tested {
-        return HowFar::Refused(a);
-    }
-    let found = test_card(list, i, card);
-    if let Tested::Refused(a) = found {
-        return HowFar::Refused(a);
-    }
+    test_rows(list)?;
+    test_card(list, i, card)?;
     work_path(list, i, card)
 }
 
 // Puts the new row in and works out the rows that it reaches; on a refusal the old row goes back.
-fn exchange(list: &mut [u64], card: &mut [u64], i: usize, row: &[u64]) -> HowFar
+fn exchange(list: &mut [u64], card: &mut [u64], i: usize, row: &[u64]) -> Result<u64, Refusal>
     requires { ExchangeReady list.old i card.old row.now }
     ensures { Exchanged (exchanged list.old card.old i row.now) result list.new card.new }
 {
@@ -48,24 +42,22 @@ fn exchange(list: &mut [u64], card: &mut [u64], i: usize, row: &[u64]) -> HowFar
     put_list(&mut old, 0, &list[at..at + FIELDS]);
     put_list(list, i, row);
     let far = rework(list, i, card);
-    if let HowFar::Refused(a) = far {
+    if far.is_err() {
         put_list(list, i, &old);
-        return HowFar::Refused(a);
     }
     far
 }
 
-fn answer(list: &mut [u64], card: &mut [u64], place: u64, row: &[u64]) -> HowFar
+fn answer(
+    list: &mut [u64],
+    card: &mut [u64],
+    place: u64,
+    row: &[u64],
+) -> Result<u64, Refusal>
     ensures { Exchanged (replaced list.old card.old place row.now) result list.new card.new }
 {
-    let size = test_size(list.len(), card.len());
-    if let Tested::Refused(a) = size {
-        return HowFar::Refused(a);
-    }
-    let edit = test_edit(list, place, row);
-    if let Tested::Refused(a) = edit {
-        return HowFar::Refused(a);
-    }
+    test_size(list.len(), card.len())?;
+    test_edit(list, place, row)?;
     exchange(list, card, (place - 1) as usize, row)
 }
 
@@ -76,12 +68,12 @@ pub fn replace(list: &mut [u64], card: &mut [u64], place: u64, row: &[u64]) -> R
         list.new card.new }
 {
     match answer(list, card, place, row) {
-        HowFar::Rows(n) => Replacement {
-            numbers: numbers(Answer::Done),
+        Ok(n) => Replacement {
+            numbers: numbers(Ok(())),
             rows: n,
         },
-        HowFar::Refused(a) => Replacement {
-            numbers: numbers(a),
+        Err(a) => Replacement {
+            numbers: numbers(Err(a)),
             rows: 0,
         },
     }
