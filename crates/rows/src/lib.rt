@@ -65,8 +65,9 @@ fn order_fault<const RATED: bool>(list: &[u64], i: usize) -> Option<u64>
     requires unrated { RATED ≡ false → field list.now i at_primary ≡ 0 }
     ensures { result ≡ order_fault list.now i }
 {
+    let low = field_at(list, i, AT_LOW);
     let high = field_at(list, i, AT_HIGH);
-    if high < field_at(list, i, AT_LOW) {
+    if high < low {
         return Some((AT_LOW as u64) + 1);
     }
     if !RATED {

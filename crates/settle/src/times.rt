@@ -190,10 +190,10 @@ pub fn time_row(
     ensures { result ≡ timed_by (stalled (view_of list.now) (card_row_at card.now) i r pickup)
         (least_setting r (meets_time (view_of list.now) (card_row_at card.now) i r pickup)) }
 {
-    let m = needed_multiple(r.law, r, r, pickup);
-    if stalls(r.law, m) {
+    let own = needed_multiple(r.law, r, r, pickup);
+    if stalls(r.law, own) {
         return Err(Reason::Curve((i as u64) + 1));
     }
     let from = walk(list, links, card, i, r, pickup)?;
-    least_time(r, m, from).ok_or(Reason::Delay)
+    least_time(r, own, from).ok_or(Reason::Delay)
 }

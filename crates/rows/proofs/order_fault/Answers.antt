@@ -22,19 +22,19 @@ fits l i r high p s a b c =
       omega (arith, ((r at_secondary (omega arith)).within (omega arith)).1),
     )
 
-pub returns-then-high-field_at : goal.returns-then-high-field_at
-returns-then-high-field_at g c = order-low _ _ _ _ 0 0 c.field_at.ensures c.field_at-high.ensures c.if-high-field_at.true
+pub returns-then-high-low : goal.returns-then-high-low
+returns-then-high-low g c = order-low _ _ _ _ 0 0 c.field_at-low.ensures c.field_at-high.ensures c.if-high-low.true
 
 pub returns-then-not-this : goal.returns-then-not-this
-returns-then-not-this g c = plain-right _ _ (c.requires.unrated (rw c.if-not-this.true)) _ _ c.field_at.ensures c.field_at-high.ensures c.if-high-field_at.false
+returns-then-not-this g c = plain-right _ _ (c.requires.unrated (rw c.if-not-this.true)) _ _ c.field_at-low.ensures c.field_at-high.ensures c.if-high-low.false
 
 pub high_right-requires : goal.high_right-requires
 high_right-requires g c = fits _ _ c.requires.in_range _ _ _ c.field_at-high.ensures c.field_at-primary.ensures c.field_at-secondary.ensures
 
 pub returns-then-high_right : goal.returns-then-high_right
-returns-then-high_right g c = order-none _ _ _ _ _ _ c.field_at.ensures c.field_at-high.ensures _ c.field_at-primary.ensures
-    c.field_at-secondary.ensures c.if-high-field_at.false c.high_right.ensures c.if-high_right.true
+returns-then-high_right g c = order-none _ _ _ _ _ _ c.field_at-low.ensures c.field_at-high.ensures _ c.field_at-primary.ensures
+    c.field_at-secondary.ensures c.if-high-low.false c.high_right.ensures c.if-high_right.true
 
 pub returns-else-high_right : goal.returns-else-high_right
-returns-else-high_right g c = order-high _ _ _ _ _ _ c.field_at.ensures c.field_at-high.ensures _ c.field_at-primary.ensures
-    c.field_at-secondary.ensures c.if-high-field_at.false c.high_right.ensures c.if-high_right.false
+returns-else-high_right g c = order-high _ _ _ _ _ _ c.field_at-low.ensures c.field_at-high.ensures _ c.field_at-primary.ensures
+    c.field_at-secondary.ensures c.if-high-low.false c.high_right.ensures c.if-high_right.false
