@@ -10,7 +10,7 @@ use answers::Refusal;
 use feeding::Links;
 use grid::greater;
 use layout::{CardRow, Row, put_card_row, row_at};
-use settle::{Fed, asks, card_row, settle};
+use settle::{Fed, asks, settle};
 
 fn join(a: Fed, b: Fed) -> Fed
     requires { a.load + b.load < 18446744073709551616 }
@@ -50,7 +50,7 @@ fn work_row(
     match settle(list, links, card, i, r, sums[i]) {
         Err(why) => Err(Refusal::Unsettled((i as u64) + 1, why)),
         Ok(o) => {
-            let k = card_row(o);
+            let k = CardRow::from(o);
             put_card_row(card, i, k);
             push(r, k, sums);
             Ok(())

@@ -238,27 +238,29 @@ fn printed_cutoff(c: Cutoff) -> Secondary
 }
 
 // The card row that shows an outcome.
-pub fn card_row(o: Outcome) -> CardRow
-    ensures { result ≡ shown o }
-{
-    let pickup = o.pickup;
-    let found = o.cutoff;
-    let cutoff = printed_cutoff(found);
-    if o.law == 0 {
-        return CardRow {
+impl From<Outcome> for CardRow {
+    ghost from_gives = { λ o k. k ≡ shown o };
+
+    fn from(o: Outcome) -> CardRow {
+        let pickup = o.pickup;
+        let found = o.cutoff;
+        let cutoff = printed_cutoff(found);
+        if o.law == 0 {
+            return CardRow {
+                pickup,
+                delay: o.setting,
+                cutoff,
+                law: 0,
+                multiplier: 0,
+            };
+        }
+        CardRow {
             pickup,
-            delay: o.setting,
+            delay: 0,
             cutoff,
-            law: 0,
-            multiplier: 0,
-        };
-    }
-    CardRow {
-        pickup,
-        delay: 0,
-        cutoff,
-        law: o.law,
-        multiplier: o.setting,
+            law: o.law,
+            multiplier: o.setting,
+        }
     }
 }
 

@@ -39,7 +39,7 @@ push-requires c = let a = c.requires in
     let k = set-bounded _ _ _ _ _ _ bounded (sym c.in-Ok.is ∙ c.settle.ensures) in
     record {
       bounded = bounded;
-      settings = subst (CardBounded _) (sym c.card_row-k.ensures) k;
+      settings = subst (CardBounded _) (sym c.from-k.ensures) k;
       feeder = of_row _ _ _ c.row_at-r.ensures a.feeder;
     }
 
@@ -49,4 +49,4 @@ returns-in-Err c = step-unsettled _ _ _ _ _ _ c.row_at-r.ensures refl _
 
 pub returns-in-Ok : goal.returns-in-Ok
 returns-in-Ok c = step_set _ _ _ _ _ _ c.row_at-r.ensures refl _ _ _ _
-    (sym c.in-Ok.is ∙ c.settle.ensures) c.card_row-k.ensures c.put_card_row.ensures c.push.ensures
+    (sym c.in-Ok.is ∙ c.settle.ensures) c.from-k.ensures c.put_card_row.ensures c.push.ensures

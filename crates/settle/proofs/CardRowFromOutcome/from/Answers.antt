@@ -1,10 +1,10 @@
--- `settle::card_row` meets its contract: the cutoff is shown as `printed` has it, and the setting by the law.
+-- `settle::CardRowFromOutcome::from` meets its contract: the cutoff is shown as `printed` has it, and the setting by the law.
 use mathlib.Core.Path.{◌≡◌}
 use Rattle.settle.specs.declared.Outcome.{Outcome}
 use Rattle.settle.specs.Settle.{printed, shown}
 use Rattle.sides.specs.declared.Secondary.{Secondary}
 use Rattle.settle.proofs.TimeLaws.{is-curve, no-curve}
-use Rattle.settle.proofs.card_row.Goals as goal
+use Rattle.settle.proofs.CardRowFromOutcome.from.Goals as goal
 
 module _ (o : Outcome) (C : Secondary) (e : C ≡ printed o.cutoff) where
   definite : o.law ≡ 0 → record { pickup = o.pickup; delay = o.setting; cutoff = C; law = 0; multiplier = 0 } ≡ shown o
