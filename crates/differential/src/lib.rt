@@ -47,7 +47,7 @@ struct Card {
 }
 
 // What is given back: DONE with the card and the verdict's number, or a refusal with its place and all six 0.
-#[derive(Clone, Copy)]
+#[derive(Clone, Copy, Default)]
 pub struct Given {
     pub number: u64,
     pub place: u64,
@@ -196,12 +196,7 @@ impl From<Result<Card, Refusal>> for Given {
                 Given {
                     number,
                     place,
-                    start: 0,
-                    bend: 0,
-                    slope: 0,
-                    blocking: 0,
-                    cutoff: 0,
-                    verdict: 0,
+                    ..Given::default()
                 }
             }
         }
