@@ -22,6 +22,10 @@ pub above-bend : (start slope restraint : ℕ) → 100 < restraint → 100 * sta
 unfolding characteristic
 above-bend start slope restraint h = rw (lt-leb restraint 100 h)
 
+pub by-second-side : (x : Inputs) → x.blocking ≤ x.first → leb x.blocking x.second ≡ both_block x
+unfolding both_block
+by-second-side x h = rw (le-leb _ _ h)
+
 module _ (x : Inputs) (slope : ℕ) where
   pub trips-at-cutoff : x.cutoff ≤ x.differential → Trip ≡ verdict_of x slope
   unfolding verdict_of
