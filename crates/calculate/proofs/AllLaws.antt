@@ -1,7 +1,6 @@
 -- The loop over all rows: the rows below i are done, and what is left of the calculation is that of the rows from i on.
 use Rattle.answers.specs.declared.Refusal.{Refusal}
 use Rattle.settle.specs.declared.Fed.{Fed}
-use Rattle.feeding.specs.declared.Links.{Links}
 use Rattle.settle.specs.Outcomes.{Settled}
 use Rattle.answers.specs.Answer.{Answer, done}
 use Rattle.std.proofs.Common.{Ok, Err}
@@ -22,7 +21,6 @@ use Rattle.layout.specs.declared.CardRow.{CardRow}
 use Rattle.layout.specs.Card.{card_row_at, put_card_row}
 use Rattle.layout.specs.List.{rows}
 use Rattle.layout.specs.View.{view_of}
-use Rattle.feeding.specs.Fed.{Linked}
 use Rattle.settle.specs.Conditions.{fed}
 use Rattle.settle.specs.Settle.{shown, settled}
 use Rattle.settle.proofs.SameLaws.{fed-below}
@@ -70,8 +68,8 @@ module _ (l c₀ c : List ℕ) (s : List Fed) (i : ℕ) (v : Passing l c₀ c s 
   fed-done : (j : ℕ) → j < rows l → fed (view_of l) i j ≡ true → below i j ≡ true
   fed-done j b g = lt-ltb j i (fed-below l v.working.feeds i j b g)
 
-  all-ready : (links : List Links) → Linked l links → WorkReady l links i c s
-  all-ready links linked = work-ready l (below i) every_row c s v.working i h (λ f. refl) links linked refl fed-done
+  all-ready : WorkReady l i c s
+  all-ready = work-ready l (below i) every_row c s v.working i h (λ f. refl) refl fed-done
 
   settles : settled_at l i c s ≡ settled (view_of l) (card_row_at c) i
   settles = work-settles l (below i) every_row c s v.working i h refl fed-done
@@ -173,14 +171,14 @@ module _ (l c : List ℕ) (s : List Fed) (a : Unworked l c s) where
           (first_rows (suc n)).card (first_rows (suc n)).sums e (as-stepped (first_rows (suc n)) _ (next-step n q))
       by_cases before (Err d) q = before (sym (ap (λ (z : Step). z.tested) (no_step n d q)) ∙ e)
 
-  pub all-rows-ready : (links : List Links) → Linked l links → RowsReady l links 0 (rows l - 0) c s
-  all-rows-ready links linked =
+  pub all-rows-ready : RowsReady l 0 (rows l - 0) c s
+  all-rows-ready =
       record {
         each =
             λ k h p.
             let e : 0 + k ≡ k = omega arith in
             rw e
-            (all-ready l c (first_rows k).card (first_rows k).sums k (passing k (omega arith) p) (omega arith) links linked);
+            (all-ready l c (first_rows k).card (first_rows k).sums k (passing k (omega arith) p) (omega arith));
       }
 
   pub all-worked : (t : Answer) (c' : List ℕ) (s' : List Fed) → Stepped (steps l 0 (rows l - 0) c s) t c' s' → calculation l c ≡ worked_as t c'

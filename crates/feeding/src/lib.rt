@@ -54,18 +54,28 @@ pub fn link(list: &[u64], links: &mut [Links])
     }
 }
 
-// The first row that row i feeds. The list stands for what the links are of.
-pub fn first_fed(list: &[u64], links: &[Links], i: usize) -> Option<usize>
-    requires { Linked list.now links.now × (i < rows list.now) }
-    ensures { result ≡ next_fed list.now i 0 }
-{
-    linked_row(links[i].first)
+// A list with the links of its rows.
+#[derive(Clone, Copy)]
+pub struct FeedingTree<'a> {
+    pub list: &'a [u64],
+    pub links: &'a [Links],
+    ghost linked: { Linked list.now links.now },
 }
 
-// The next row that is fed by the row that feeds row j.
-pub fn next_fed(list: &[u64], links: &[Links], j: usize) -> Option<usize>
-    requires { Linked list.now links.now × (j < rows list.now) }
-    ensures { (i : ℕ) → feeds list.now i j ≡ true → result ≡ next_fed list.now i (j + 1) }
-{
-    linked_row(links[j].next)
+impl FeedingTree<'_> {
+    // The first row that row i feeds.
+    pub fn first_fed(self, i: usize) -> Option<usize>
+        requires { i < rows self.list.now }
+        ensures { result ≡ next_fed self.entry.list.now i 0 }
+    {
+        linked_row(self.links[i].first)
+    }
+
+    // The next row that is fed by the row that feeds row j.
+    pub fn next_fed(self, j: usize) -> Option<usize>
+        requires { j < rows self.list.now }
+        ensures { (i : ℕ) → feeds self.entry.list.now i j ≡ true → result ≡ next_fed self.entry.list.now i (j + 1) }
+    {
+        linked_row(self.links[j].next)
+    }
 }

@@ -1,7 +1,6 @@
 -- One row of a climb: row i is settled by its sums, and by its fed rows as the card has them, as section 3 says, since all rows that it feeds
 -- are off its path, and so done.
 use Rattle.settle.specs.declared.Fed.{Fed}
-use Rattle.feeding.specs.declared.Links.{Links}
 use Rattle.settle.specs.Outcomes.{Settled}
 use Rattle.answers.specs.declared.Refusal.{Refusal}
 use Rattle.answers.specs.Answer.{Answer, done}
@@ -35,7 +34,7 @@ use Rattle.path.proofs.ReachLaws.{get-reached}
 abbrev pub off : List ℕ → ℕ → ℕ → Bool
 off l i j = not (on_path l i j)
 
-module _ (l : List ℕ) (links : List Links) (i : ℕ) (c : List ℕ) (s : List Fed) (r : ClimbReady l links i c s) where
+module _ (l : List ℕ) (i : ℕ) (c : List ℕ) (s : List Fed) (r : ClimbReady l i c s) where
   -- the feeder of a row on the path is on it
   feeder-on : 1 ≤ (row_at l i).feeder → on_path l i ((row_at l i).feeder - 1) ≡ true
   feeder-on q =
@@ -48,13 +47,13 @@ module _ (l : List ℕ) (links : List Links) (i : ℕ) (c : List ℕ) (s : List 
       let b = r.working.feeds in
       rw (off-below l b i j r.is_row (fed-below l b i j h g))
 
-  pub climb-works : WorkReady l links i c s
+  pub climb-works : WorkReady l i c s
   climb-works =
-      work-ready l (off l i) (on_path l i) c s r.working i r.is_row feeder-on links r.linked
+      work-ready l (off l i) (on_path l i) c s r.working i r.is_row feeder-on
       (on-self l r.working.feeds i r.is_row) fed-off
 
-  pub climb-ready : RowsReady l links i (i + 1 - i) c s
-  climb-ready = one-row-ready l i c s links climb-works
+  pub climb-ready : RowsReady l i (i + 1 - i) c s
+  climb-ready = one-row-ready l i c s climb-works
 
   settles : settled_at l i c s ≡ settled (view_of l) (card_row_at c) i
   settles =

@@ -1,7 +1,6 @@
 -- The climb past a row that is settled: it ends there, being fed by the source or a feeding row that comes out as it was, or the path of
 -- its feeding row is worked out on the card with the row put in; on a refusal there the old numbers go back.
 use Rattle.settle.specs.declared.Fed.{Fed}
-use Rattle.feeding.specs.declared.Links.{Links}
 use Rattle.answers.specs.declared.Refusal.{Refusal}
 use Rattle.answers.specs.Answer.{Answer}
 use Rattle.std.proofs.Common.{Ok, Err}
@@ -36,8 +35,8 @@ use Rattle.rows.specs.InRange.{Feeds}
 use Rattle.path.proofs.ReachLaws.{stops-exactly, get-reached, reaches-from}
 use Rattle.path.proofs.ClimbLaws.{off, climb-works, Comes}
 
-module _ {l : List ℕ} {links : List Links} {i : ℕ} {c : List ℕ} {s : List Fed} {r : ClimbReady l links i c s} {t : Answer} {c' : List ℕ} {s' : List Fed}
-    {z : Stepped (steps l i (i + 1 - i) c s) t c' s'} (p : Comes l links i c s r t c' s' z) (feeding : Bool) where
+module _ {l : List ℕ} {i : ℕ} {c : List ℕ} {s : List Fed} {r : ClimbReady l i c s} {t : Answer} {c' : List ℕ} {s' : List Fed}
+    {z : Stepped (steps l i (i + 1 - i) c s) t c' s'} (p : Comes l i c s r t c' s' z) (feeding : Bool) where
   abbrev feeds : Feeds l
   feeds = r.working.feeds
 
@@ -50,7 +49,7 @@ module _ {l : List ℕ} {links : List Links} {i : ℕ} {c : List ℕ} {s : List 
     -- whether it is a feeding row that comes out as it was
     stops : b ≡ (feeding && same_card_row (card_row_at c i) (shown p.outcome))
     stops =
-        let own = put_card_row-own c i (shown p.outcome) (climb-works l links i c s r).in-card in
+        let own = put_card_row-own c i (shown p.outcome) (climb-works l i c s r).in-card in
         eb ∙ ap₂ (λ (x y : CardRow). feeding && same_card_row x y) eo (ap (λ (x : List ℕ). card_row_at x i) p.card ∙ own)
 
     pub climb-stops : b ≡ true → WorkedOut l (reach_from l feeding (path_of l i) c) c (Ok 1) c'
@@ -83,14 +82,13 @@ module _ {l : List ℕ} {links : List Links} {i : ℕ} {c : List ℕ} {s : List 
             on-fed l feeds i j r.is_row fed ∙
             rw (← ef, o) (or-true (eqb j i))
 
-        pub climb-on : ClimbReady l links (f - 1) c' s'
+        pub climb-on : ClimbReady l (f - 1) c' s'
         climb-on =
             let k = fed-climbs l feeds i r.is_row fed in
-            subst (λ (x : List Fed). ClimbReady l links (f - 1) c' x) (sym p.sums)
-            (subst (λ (x : List ℕ). ClimbReady l links (f - 1) x (pushed (row_at l i) (shown p.outcome) s)) (sym p.card)
+            subst (λ (x : List Fed). ClimbReady l (f - 1) c' x) (sym p.sums)
+            (subst (λ (x : List ℕ). ClimbReady l (f - 1) x (pushed (row_at l i) (shown p.outcome) s)) (sym p.card)
             (record {
               is_row = rw ef k.within;
-              linked = r.linked;
               working =
                   work-next l (off l i) (on_path l i) c s r.working i r.is_row (rw (on-self l feeds i r.is_row))
                   (off l (f - 1)) off_next (on_path l (f - 1)) on-next (shown p.outcome) p.bounded;
@@ -130,7 +128,7 @@ module _ {l : List ℕ} {links : List Links} {i : ℕ} {c : List ℕ} {s : List 
             (record {
               far = refl;
               card = b''' ∙ ap₂ (λ (x : List ℕ) (o : CardRow). put_card_row x i o) (b.1 ∙ p.card) eo ∙ put_card_row-back c i
-                  (climb-works l links i c s r).in-card (shown p.outcome);
+                  (climb-works l i c s r).in-card (shown p.outcome);
             })
 
         pub climb-done :

@@ -1,10 +1,8 @@
 -- What the functions of a path ask of their callers, and the shape of their promises. Definitions only.
 use Rattle.settle.specs.declared.Fed.{Fed}
-use Rattle.feeding.specs.declared.Links.{Links}
 use Rattle.answers.specs.Answer.{done}
 use Rattle.answers.specs.declared.Refusal.{Refusal}
 use Rattle.std.specs.Prelude.{◌≡◌, not, List, ℕ, ◌+◌, ◌*◌, ◌<◌, ◌≤◌, length, Result, Ok, Err}
-use Rattle.feeding.specs.Fed.{Linked}
 use Rattle.layout.specs.Card.{card_row_at, column_bounds_to}
 use Rattle.layout.specs.Counts.{field_count, column_count, rows_most}
 use Rattle.layout.specs.List.{rows, row_at}
@@ -22,10 +20,9 @@ pub record RowReady (l c unrated rated : List ℕ) (j : ℕ) : Type 0 where
   pub unrated-is : unrated ≡ column_bounds_to 100000000
   pub rated-is : rated ≡ column_bounds_to 500000
 
--- every row off the path of row i is done and none on it, the sums hold what is asked of the rows on it, and the links are the list's
-pub record ClimbReady (l : List ℕ) (links : List Links) (i : ℕ) (c : List ℕ) (s : List Fed) : Type 0 where
+-- every row off the path of row i is done and none on it, and the sums hold what is asked of the rows on it
+pub record ClimbReady (l : List ℕ) (i : ℕ) (c : List ℕ) (s : List Fed) : Type 0 where
   pub is_row : i < rows l
-  pub linked : Linked l links
   pub working : Working l (λ j. not (on_path l i j)) (on_path l i) c s
 
 -- what row j asks with the numbers found on the card can be added

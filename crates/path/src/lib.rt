@@ -14,7 +14,7 @@ ghost use Rattle.path.specs.CardTest.{within_table, card_right, card_test};
 ghost use Rattle.path.specs.Ready.{RowReady, FoundReady, ClimbReady, RestReady, PathReady, WorkedOut};
 
 use answers::Refusal;
-use feeding::{Links, UNLINKED, link};
+use feeding::{FeedingTree, UNLINKED, link};
 use layout::{
     AT_FEEDER, AT_PRIMARY, COLUMNS, CardRow, FIELDS, ROWS, card_row_at, column_at, column_bounds,
     field_at, in_bounds, put_card_row, row_at, same_card_row,
@@ -120,29 +120,28 @@ fn stays(card: &[u64], i: usize, old: CardRow, feeding: bool) -> bool
 }
 
 // Works out row i and then, unless it is a feeding row that comes out as it was, the path of the row that feeds it. A refusal above
-// puts the row's old numbers back. `links` are those of the list.
+// puts the row's old numbers back.
 fn climb(
-    list: &[u64],
-    links: &[Links],
+    tree: FeedingTree,
     i: usize,
     card: &mut [u64],
     sums: &mut [Fed],
     feeding: bool,
 ) -> Result<u64, Refusal>
-    requires { ClimbReady list.now links.now i card.old sums.old }
-    ensures { WorkedOut list.now (reach_from list.now feeding (path_of list.now i) card.old)
+    requires { ClimbReady tree.list.now i card.old sums.old }
+    ensures { WorkedOut tree.entry.list.now (reach_from tree.entry.list.now feeding (path_of tree.entry.list.now i) card.old)
         card.old result card.new }
 {
     let old = card_row_at(card, i);
-    work_rows(list, links, i, i + 1, card, sums)?;
+    work_rows(tree, i, i + 1, card, sums)?;
     if stays(card, i, old, feeding) {
         return Ok(1); // the stop counts
     }
-    let feeder = field_at(list, i, AT_FEEDER);
+    let feeder = field_at(tree.list, i, AT_FEEDER);
     if feeder == 0 {
         return Ok(1);
     }
-    match climb(list, links, (feeder - 1) as usize, card, sums, true) {
+    match climb(tree, (feeder - 1) as usize, card, sums, true) {
         Err(a) => {
             put_card_row(card, i, old);
             Err(a)
@@ -159,7 +158,11 @@ pub fn work_path(list: &[u64], i: usize, card: &mut [u64]) -> Result<u64, Refusa
 {
     let mut links = [UNLINKED; ROWS];
     link(list, &mut links);
+    let tree = FeedingTree {
+        list,
+        links: &links,
+    };
     let mut sums = [NOTHING; ROWS];
     push_rest(list, i, card, &mut sums);
-    climb(list, &links, i, card, &mut sums, false)
+    climb(tree, i, card, &mut sums, false)
 }

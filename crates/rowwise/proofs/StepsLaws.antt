@@ -2,7 +2,6 @@
 -- row i, none of which was refused.
 use Rattle.answers.specs.declared.Refusal.{Refusal}
 use Rattle.settle.specs.declared.Fed.{Fed}
-use Rattle.feeding.specs.declared.Links.{Links}
 use Rattle.answers.specs.Answer.{Answer, done}
 use Rattle.std.proofs.Common.{Err}
 use mathlib.Core.Path.{◌≡◌, sym, ap, ◌∙◌}
@@ -42,9 +41,9 @@ module _ (l : List ℕ) (i : ℕ) (c : List ℕ) (s : List Fed) where
   unfolding steps on_step
   one-row = let e : i + 1 - i ≡ 1 = omega arith in rw (e, add-zero)
 
-  pub one-row-ready : (links : List Links) → WorkReady l links i c s → RowsReady l links i (i + 1 - i) c s
+  pub one-row-ready : WorkReady l i c s → RowsReady l i (i + 1 - i) c s
   unfolding steps
-  one-row-ready links w = record { each = λ k h p. let e : k ≡ 0 = omega arith in rw (e, add-zero) w }
+  one-row-ready w = record { each = λ k h p. let e : k ≡ 0 = omega arith in rw (e, add-zero) w }
 
 pub record Stepping (l : List ℕ) (from to : ℕ) (c₀ : List ℕ) (s₀ : List Fed) (c : List ℕ) (s : List Fed) (i : ℕ) : Type 0 where
   pub begun : from ≤ i
@@ -73,8 +72,8 @@ module _ (l : List ℕ) (from to : ℕ) (c₀ : List ℕ) (s₀ : List Fed) (c :
   here : from + so_far ≡ i
   here = omega (arith, v.begun)
 
-  pub stepping-ready : (links : List Links) → RowsReady l links from (to - from) c₀ s₀ → i < to → WorkReady l links i c s
-  stepping-ready links a h =
+  pub stepping-ready : RowsReady l from (to - from) c₀ s₀ → i < to → WorkReady l i c s
+  stepping-ready a h =
       let w = a.each so_far (omega (arith, v.begun)) v.passed in
       rw (v.card, v.sums) (rw here at w)
 

@@ -2,7 +2,6 @@
 -- whose fed rows are all done is settled by the sums as section 3 says, and its step keeps the sums true.
 use lib.Seq.{get_or-set_same, get_or-set_other}
 use lib.ListN.{set}
-use Rattle.feeding.specs.declared.Links.{Links}
 use Rattle.std.proofs.Common.{Ok}
 use mathlib.Core.Path.{◌≡◌, refl, sym, ap, ◌∙◌, subst}
 use mathlib.Core.Bool.{Bool, true, false, cond, ◌&&◌, ◌||◌}
@@ -22,7 +21,6 @@ use Rattle.layout.specs.List.{rows, row_at}
 use Rattle.layout.specs.View.{view_of}
 use Rattle.layout.proofs.CardLaws.{put_card_row-length, put_card_row-own, put_card_row-other}
 use Rattle.rows.proofs.InRangeLaws.{feeder-above, feeder-of-last}
-use Rattle.feeding.specs.Fed.{Linked}
 use Rattle.settle.specs.declared.Fed.{Fed}
 use Rattle.settle.specs.declared.Outcome.{Outcome}
 use Rattle.settle.specs.Conditions.{primary_of, fed, load_of}
@@ -95,16 +93,16 @@ module _ (l : List ℕ) (done matters : ℕ → Bool) (c : List ℕ) (s : List F
         }
 
     pub work-ready :
-        (links : List Links) → Linked l links → matters i ≡ true → ((j : ℕ) → j < rows l → fed (view_of l) i j ≡ true → done j ≡ true) →
-        WorkReady l links i c s
-    work-ready links linked m all =
+        matters i ≡ true → ((j : ℕ) → j < rows l → fed (view_of l) i j ≡ true → done j ≡ true) →
+        WorkReady l i c s
+    work-ready m all =
         record {
           is_row = h;
           in-card = omega (arith, w.card-room);
           in-sums = omega (arith, w.sums-room);
           all-bounded = λ j b. (w.in-range j b).bounded;
           fed-bounded = sums-bounded i h m;
-          fed-ready = record { linked = linked; card-room = w.card-room; settings-to = λ j b g. w.settings-to j b (all j b g) };
+          fed-ready = record { card-room = w.card-room; settings-to = λ j b g. w.settings-to j b (all j b g) };
           feeder = has-feeder;
         }
 

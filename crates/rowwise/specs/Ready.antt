@@ -1,6 +1,5 @@
 -- What one row's working out asks of its callers, and its promise. Definitions only.
 use Rattle.settle.specs.declared.Fed.{Fed}
-use Rattle.feeding.specs.declared.Links.{Links}
 use Rattle.answers.specs.Answer.{Answer, done}
 use Rattle.std.specs.Prelude.{◌≡◌, List, ℕ, ◌+◌, ◌-◌, ◌*◌, ◌≤◌, ◌<◌, length}
 use Rattle.layout.specs.declared.CardRow.{CardRow}
@@ -25,19 +24,19 @@ pub record PushReady (r : Row) (k : CardRow) (s : List Fed) : Type 0 where
   pub feeder : HasFeeder r s
 
 -- row i can be worked out
-pub record WorkReady (l : List ℕ) (links : List Links) (i : ℕ) (c : List ℕ) (s : List Fed) : Type 0 where
+pub record WorkReady (l : List ℕ) (i : ℕ) (c : List ℕ) (s : List Fed) : Type 0 where
   pub is_row : i < rows l
   pub in-card : i * column_count + column_count ≤ length c
   pub in-sums : i < length s
   pub all-bounded : AllBounded (view_of l)
   pub fed-bounded : FedBounded (fed_at s i)
-  pub fed-ready : FedReady l links c i
+  pub fed-ready : FedReady l c i
   pub feeder : HasFeeder (row_at l i) s
 
 -- each of n rows from i on can be worked out on the card and the sums that those before it leave
-pub record RowsReady (l : List ℕ) (links : List Links) (i n : ℕ) (c : List ℕ) (s : List Fed) : Type 0 where
+pub record RowsReady (l : List ℕ) (i n : ℕ) (c : List ℕ) (s : List Fed) : Type 0 where
   pub each :
-      (k : ℕ) → k < n → (steps l i k c s).tested ≡ done → WorkReady l links (i + k) (steps l i k c s).card (steps l i k c s).sums
+      (k : ℕ) → k < n → (steps l i k c s).tested ≡ done → WorkReady l (i + k) (steps l i k c s).card (steps l i k c s).sums
 
 -- the answer, the card and the sums are the step's
 pub record Stepped (z : Step) (t : Answer) (c : List ℕ) (s : List Fed) : Type 0 where

@@ -7,7 +7,7 @@ ghost use Rattle.rowwise.specs.Ready.{PushReady, WorkReady, RowsReady, Stepped};
 ghost use Rattle.rowwise.specs.Sums.{joined, pushed, step, steps};
 
 use answers::Refusal;
-use feeding::Links;
+use feeding::FeedingTree;
 use grid::greater;
 use layout::{CardRow, Row, put_card_row, row_at};
 use settle::{Fed, asks, settle};
@@ -37,17 +37,16 @@ pub fn push(r: Row, k: CardRow, sums: &mut [Fed])
 
 // Works out one row: its settings go to the card, what it asks to the sums. A refusal changes neither.
 fn work_row(
-    list: &[u64],
-    links: &[Links],
+    tree: FeedingTree,
     i: usize,
     card: &mut [u64],
     sums: &mut [Fed],
 ) -> Result<(), Refusal>
-    requires { WorkReady list.now links.now i card.old sums.old }
-    ensures { Stepped (step list.now i card.old sums.old) result card.new sums.new }
+    requires { WorkReady tree.list.now i card.old sums.old }
+    ensures { Stepped (step tree.entry.list.now i card.old sums.old) result card.new sums.new }
 {
-    let r = row_at(list, i);
-    match settle(list, links, card, i, r, sums[i]) {
+    let r = row_at(tree.list, i);
+    match settle(tree, card, i, r, sums[i]) {
         Err(why) => Err(Refusal::Unsettled((i as u64) + 1, why)),
         Ok(o) => {
             let k = CardRow::from(o);
@@ -61,18 +60,17 @@ fn work_row(
 // Works out the rows from one on, and below another, up to the first that is refused. A climb, too, calls it for each of its rows: with
 // one caller, what a row takes is compiled into this loop.
 pub fn work_rows(
-    list: &[u64],
-    links: &[Links],
+    tree: FeedingTree,
     from: usize,
     to: usize,
     card: &mut [u64],
     sums: &mut [Fed],
 ) -> Result<(), Refusal>
-    requires { RowsReady list.now links.now from (to - from) card.old sums.old }
-    ensures { Stepped (steps list.now from (to - from) card.old sums.old) result card.new sums.new }
+    requires { RowsReady tree.list.now from (to - from) card.old sums.old }
+    ensures { Stepped (steps tree.entry.list.now from (to - from) card.old sums.old) result card.new sums.new }
 {
     for i in from..to {
-        work_row(list, links, i, card, sums)?;
+        work_row(tree, i, card, sums)?;
     }
     Ok(())
 }

@@ -1,5 +1,4 @@
 -- What settling a row of a list asks of its callers. Definitions only.
-use Rattle.feeding.specs.declared.Links.{Links}
 use Rattle.std.specs.Prelude.{◌≡◌, true, List, ℕ, ◌+◌, ◌*◌, ◌≤◌, ◌<◌, length}
 use Rattle.layout.specs.declared.Row.{Row}
 use Rattle.layout.specs.List.{rows, row_at}
@@ -7,7 +6,6 @@ use Rattle.layout.specs.Range.{Bounded, AllBounded}
 use Rattle.layout.specs.View.{view_of}
 use Rattle.layout.specs.Card.{card_row_at}
 use Rattle.layout.specs.Counts.{column_count}
-use Rattle.feeding.specs.Fed.{Linked}
 use Rattle.sides.specs.declared.Primary.{Primary}
 use Rattle.settle.specs.Conditions.{fed}
 use Rattle.settle.specs.Fed.{PrimaryBounded, CardBounded}
@@ -18,9 +16,8 @@ pub record Listed (l : List ℕ) (i : ℕ) (r : Row) : Type 0 where
   pub all-bounded : AllBounded (view_of l)
   pub bounded : Bounded r
 
--- the rows that row i feeds can be gone through, and their settings on the card are such that nothing overflows
-pub record FedReady (l : List ℕ) (links : List Links) (c : List ℕ) (i : ℕ) : Type 0 where
-  pub linked : Linked l links
+-- the rows that row i feeds have a place on the card, and their settings there are such that nothing overflows
+pub record FedReady (l c : List ℕ) (i : ℕ) : Type 0 where
   pub card-room : rows l * column_count ≤ length c
   pub settings-to : (j : ℕ) → j < rows l → fed (view_of l) i j ≡ true → CardBounded (row_at l j) (card_row_at c j)
 

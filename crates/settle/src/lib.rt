@@ -19,7 +19,7 @@ ghost use Rattle.settle.specs.Ready.{Listed, FedReady};
 ghost use Rattle.settle.specs.Settle.{unbacked, first_unbacked, judged, cutoff_of, printed, shown};
 
 use answers::{Cause, Reason};
-use feeding::Links;
+use feeding::FeedingTree;
 use grid::{greater, least_on};
 use layout::{CardRow, FIELDS, Row, row_at};
 use sides::{Primary, Secondary, in_primary, least_keyed};
@@ -207,18 +207,17 @@ fn cutoff_at(r: Row) -> Cutoff
 
 // The least settings of row i, whose fields are r, or the refusal: RANGE, OWN ZONE or BACKUP before CURVE, and CURVE before DELAY.
 pub fn settle(
-    list: &[u64],
-    links: &[Links],
+    tree: FeedingTree,
     card: &[u64],
     i: usize,
     r: Row,
     f: Fed,
 ) -> Result<Outcome, Reason>
-    requires { Listed list.now i r × FedBounded f × FedReady list.now links.now card.now i }
-    ensures { result ≡ settled_by (view_of list.now) (card_row_at card.now) i r f }
+    requires { Listed tree.list.now i r × FedBounded f × FedReady tree.list.now card.now i }
+    ensures { result ≡ settled_by (view_of tree.entry.list.now) (card_row_at card.now) i r f }
 {
-    let pickup = pick(list, i, r, f)?;
-    let setting = time_row(list, links, card, i, r, in_primary(r.ratio, pickup))?;
+    let pickup = pick(tree.list, i, r, f)?;
+    let setting = time_row(tree, card, i, r, in_primary(r.ratio, pickup))?;
     Ok(Outcome {
         pickup,
         law: r.law,

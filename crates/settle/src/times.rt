@@ -14,7 +14,7 @@ ghost use Rattle.settle.specs.Times.{needed_multiple, fed_time_of, timed_by, Wan
 use super::Stalled;
 use answers::Reason;
 use curve::{least_setting, multiple, setting_from, setting_to, stalls, time_of};
-use feeding::{Links, first_fed, next_fed};
+use feeding::FeedingTree;
 use grid::{greater, least_on};
 use layout::{AT_DEVICE, CardRow, Row, card_row_at, field_at, row_at};
 use sides::{Primary, in_primary};
@@ -118,22 +118,21 @@ fn ask(
 
 // What all the rows that row i feeds ask, gone through in ascending order.
 fn walk(
-    list: &[u64],
-    links: &[Links],
+    tree: FeedingTree,
     card: &[u64],
     i: usize,
     r: Row,
     pickup: Primary,
 ) -> Result<u64, Stalled>
-    requires { Listed list.now i r × PrimaryBounded pickup × FedReady list.now links.now card.now i }
-    ensures { WalkIs (view_of list.now) (card_row_at card.now) i r pickup result }
+    requires { Listed tree.list.now i r × PrimaryBounded pickup × FedReady tree.list.now card.now i }
+    ensures { WalkIs (view_of tree.entry.list.now) (card_row_at card.now) i r pickup result }
 {
     let mut from = 0;
-    let mut next = first_fed(list, links, i);
+    let mut next = tree.first_fed(i);
     while let Some(j) = next {
-        let b = ask(list, card, i, r, pickup, j)?;
+        let b = ask(tree.list, card, i, r, pickup, j)?;
         from = greater(from, b);
-        next = next_fed(list, links, j);
+        next = tree.next_fed(j);
     }
     Ok(from)
 }
@@ -179,21 +178,20 @@ fn least_time(r: Row, m: u64, from: u64) -> Option<u64>
 
 // The least setting of row i, whose fields are r, at its pickup; CURVE before DELAY.
 pub fn time_row(
-    list: &[u64],
-    links: &[Links],
+    tree: FeedingTree,
     card: &[u64],
     i: usize,
     r: Row,
     pickup: Primary,
 ) -> Result<u64, Reason>
-    requires { Listed list.now i r × PrimaryBounded pickup × FedReady list.now links.now card.now i }
-    ensures { result ≡ timed_by (stalled (view_of list.now) (card_row_at card.now) i r pickup)
-        (least_setting r (meets_time (view_of list.now) (card_row_at card.now) i r pickup)) }
+    requires { Listed tree.list.now i r × PrimaryBounded pickup × FedReady tree.list.now card.now i }
+    ensures { result ≡ timed_by (stalled (view_of tree.entry.list.now) (card_row_at card.now) i r pickup)
+        (least_setting r (meets_time (view_of tree.entry.list.now) (card_row_at card.now) i r pickup)) }
 {
     let own = needed_multiple(r.law, r, r, pickup);
     if stalls(r.law, own) {
         return Err(Reason::Curve((i as u64) + 1));
     }
-    let from = walk(list, links, card, i, r, pickup)?;
+    let from = walk(tree, card, i, r, pickup)?;
     least_time(r, own, from).ok_or(Reason::Delay)
 }

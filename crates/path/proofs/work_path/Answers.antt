@@ -30,6 +30,5 @@ push_rest-requires c = let a = c.requires in
 pub climb-requires : goal.climb-requires
 climb-requires c = record {
   is_row = c.requires.rework.is_row;
-  linked = c.link.ensures;
   working = c.push_rest.ensures;
 }

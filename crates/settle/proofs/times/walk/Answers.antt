@@ -25,7 +25,7 @@ returns-in_err-b c = let p = err_from_is_err_and c.from_residual.result c.from_r
     rw (p.1, p.2) (walk-stuck _ _ _ _ _ _ _ c.loop-next.invariant _ c.in-Some.is _ c.in_err-b.ensures)
 
 pub next_fed-next-requires : goal.next_fed-next-requires
-next_fed-next-requires c = (c.requires.2.linked, walk-row _ _ _ _ _ _ _ c.loop-next.invariant _ c.in-Some.is)
+next_fed-next-requires c = walk-row _ _ _ _ _ _ _ c.loop-next.invariant _ c.in-Some.is
 
 pub loop-next-smaller : goal.loop-next-smaller
 loop-next-smaller c = let w = c.loop-next.invariant in

@@ -5,7 +5,7 @@ use Rattle.settle.proofs.WalkLaws.{Walking, rows_left}
 use Rattle.settle.proofs.times.walk.Given as goal
 
 abbrev pub invariant-loop-next : goal.invariant-loop-next
-invariant-loop-next l = Walking l.list l.card l.i l.r l.pickup l.from l.next
+invariant-loop-next l = Walking l.tree.list.now l.card l.i l.r l.pickup l.from l.next
 
 abbrev pub decreases-loop-next : goal.decreases-loop-next
-decreases-loop-next l = rows_left (rows l.list) l.next
+decreases-loop-next l = rows_left (rows l.tree.list.now) l.next
