@@ -2,8 +2,8 @@
 use Rattle.answers.specs.declared.Refusal.{Refusal}
 use Rattle.answers.specs.declared.Refusal.TheVariants.{Count, Room, Field, Tree}
 use Rattle.answers.specs.Answer.{Answer, done}
-use Rattle.std.proofs.Common.{Option, Some, None, Err}
-use mathlib.Core.Path.{◌≡◌, refl, sym, ◌∙◌}
+use Rattle.std.proofs.Common.{Option, Some, None, Err, unwrap_or}
+use mathlib.Core.Path.{◌≡◌, refl, sym, ap, ◌∙◌}
 use mathlib.Core.Bool.{Bool, true, false, not, cond, ◌&&◌}
 use mathlib.Core.List.{List}
 use Prim.Native.Nat.{ℕ, ◌+◌, ◌-◌, ◌*◌, ◌/◌, ◌%◌, ◌≤◌, ◌<◌}
@@ -88,7 +88,7 @@ module _ (l : List ℕ) where
 
   pub fields-found : (i f : ℕ) → Some f ≡ row_fault l i → first (row_at_fault l) 0 (rows l) ≡ Some i → Err (Field (i + 1) f) ≡ fields_test l
   unfolding fields_test field_answer
-  fields-found i f q e = rw (e, ← q)
+  fields-found i f q e = rw e (ap (λ (x : Option ℕ). Err (Field (i + 1) (unwrap_or x 0))) q)
 
   pub fields-none : first (row_at_fault l) 0 (rows l) ≡ None → done ≡ fields_test l
   unfolding fields_test field_answer
