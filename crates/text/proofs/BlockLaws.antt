@@ -3,24 +3,13 @@ use mathlib.Core.Path.{◌≡◌, sym, ap, ◌∙◌}
 use mathlib.Core.Logic.{⊎_elim}
 use mathlib.Core.List.{List, ◌++◌}
 use Prim.Native.Nat.{ℕ, ◌+◌, ◌*◌, ◌/◌, ◌≤◌, ◌<◌, min}
-use native.Mathlib.Nat.{suc-mul, add-mul, one-mul, zero-mul, mul-le-mul_right, le_trans, div-mul-le_self, div-zero, min-eq_left}
+use native.Mathlib.Nat.{add-mul, one-mul, zero-mul, div-zero, min-eq_left}
 use native.Mathlib.Omega.{arith}
 use lib.ListN.{length, take, drop, length-append}
 use lib.Seq.{paste, take-add, drop-drop, take_at, drop_at, length-take-le, take-length, take_all}
 use borrow.Author.Tests.{lt-ltb, le-ltb}
 use Rattle.fold.proofs.BoolLaws.{lt-or-le}
 use Rattle.text.specs.Text.{over, kept_in, blocks_over}
-
--- block n of w numbers each ends inside, where n is below the room
-pub block_inside : (n room w len : ℕ) → n < room → room * w ≤ len → n * w + w ≤ len
-block_inside n room w len h k =
-    let m = mul-le-mul_right w h in
-    let q : n * w + w ≤ room * w = rw (suc-mul n w) at m in
-    le_trans q k
-
--- where n is below the room that a buffer has
-pub room-inside : (n w len : ℕ) → n < len / w → n * w + w ≤ len
-room-inside n w len h = block_inside n (len / w) w len h (div-mul-le_self len w)
 
 -- a block of nothing changes nothing
 pub kept-empty : {A : Type 0} → (n : ℕ) (block l : List A) → length block ≡ 0 → l ≡ kept_in (length l / length block) n block l

@@ -3,12 +3,12 @@ use Rattle.std.proofs.Common.{◌&&◌}
 use Rattle.std.specs.Cmp.Lexicographic.{pointwise}
 use mathlib.Core.Path.{ap}
 use mathlib.Core.Path.{◌≡◌, refl, ap₂}
-use mathlib.Core.Bool.{Bool, true, false, false≢true}
+use mathlib.Core.Bool.{Bool, true, false≢true}
 use mathlib.Core.List.{List, [], ◌∷◌}
 use Prim.Native.Nat.{ℕ}
 use lib.Dec.{eqb}
 use borrow.Author.Tests.{eq-eqb, eqb-true}
-use Rattle.fold.proofs.BoolLaws.{and_left, and_right, fails}
+use Rattle.fold.proofs.BoolLaws.{and_left, and_right}
 use Rattle.text.specs.Text.{same_bytes}
 
 pub same-equal : (a b : List ℕ) → same_bytes a b ≡ true → a ≡ b
@@ -23,9 +23,6 @@ pub same_refl : (a : List ℕ) → same_bytes a a ≡ true
 unfolding same_bytes
 same_refl [] = refl
 same_refl (x ∷ a) = rw (eq-eqb x x refl) (same_refl a)
-
-pub same_not : (a b : List ℕ) → (a ≡ b → ⊥) → same_bytes a b ≡ false
-same_not a b h = fails (same_bytes a b) (λ t. h (same-equal a b t))
 
 -- the library's comparison
 pub same-pointwise : (a b : List ℕ) → pointwise eqb a b ≡ same_bytes a b
