@@ -7,31 +7,31 @@ ghost use Rattle.curve.specs.Curve.{multiple, stalls, setting_to, setting_from, 
 use grid::ceil_div;
 
 // M in thousandths, of a current and a pickup in one unit: rounded down, and 20 above 20. 0 where the pickup is 0.
+#[tactic(auto, unfolding(crate::specs::Curve::multiple))]
 pub fn multiple(x: u64, y: u64) -> u64
     requires { x ≤ 1000000000000000 }
     ensures { result ≡ multiple x y }
 {
-    if y == 0 {
-        return 0;
-    }
-    let m = 1000 * x / y;
-    if 20000 <= m { 20000 } else { m }
+    (1000 * x).checked_div(y).unwrap_or(0).min(20000)
 }
 
-// A curve gives no time at this M.
+// A curve gives no time at this M. A law is the number that list and card have: the theorems and surfpocket_time are over every number.
+#[tactic(auto, unfolding(crate::specs::Curve::stalls))]
 pub fn stalls(law: u64, m: u64) -> bool
     ensures { result ≡ stalls law m }
 {
     law != 0 && m <= 1000
 }
 
-// The least and the greatest setting of a law.
+// The least and the greatest setting of a law: two functions, as callers and `curve-setting` take each by itself.
+#[tactic(auto, unfolding(crate::specs::Curve::setting_from))]
 pub fn setting_from(law: u64) -> u64
     ensures { result ≡ setting_from law }
 {
     if law == 0 { 0 } else { 10 }
 }
 
+#[tactic(auto, unfolding(crate::specs::Curve::setting_to))]
 pub fn setting_to(law: u64) -> u64
     ensures { result ≡ setting_to law }
 {
@@ -39,6 +39,7 @@ pub fn setting_to(law: u64) -> u64
 }
 
 // The time of a curve as a fraction of whole numbers, for a setting of 1.
+#[tactic(auto, unfolding(crate::specs::Curve::numerator))]
 fn numerator(law: u64) -> u64
     requires { law ≡ 0 → ⊥ }
     ensures { result ≡ numerator law }
@@ -46,6 +47,7 @@ fn numerator(law: u64) -> u64
     if law == 1 { 13500 } else { 80000000 }
 }
 
+#[tactic(auto, unfolding(crate::specs::Curve::denominator))]
 fn denominator(law: u64, m: u64) -> u64
     requires { (m ≤ 20000) × (law ≡ 0 → ⊥) }
     ensures { result ≡ denominator law m }
@@ -57,6 +59,7 @@ fn denominator(law: u64, m: u64) -> u64
 }
 
 // The time in ms at this M with this setting. A definite delay asks no division: most rows have one.
+#[tactic(auto, unfolding(crate::specs::Curve::time_of))]
 pub fn time_of(law: u64, m: u64, x: u64) -> u64
     requires { (m ≤ 20000) × (x ≤ setting_to law) }
     ensures { result ≡ time_of law m x }

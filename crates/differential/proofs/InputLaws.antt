@@ -66,12 +66,6 @@ module _ (x : Inputs) where
     pub through-range : (100 ≤ x.through) × (x.through ≤ 2000)
     through-range = right-within (r 4 (omega arith) (omega arith))
 
-    pub differential-to : x.differential ≤ 10000
-    differential-to = (right-within (r 7 (omega arith) (omega arith))).1
-
-    pub restraint-to : x.restraint ≤ 10000
-    restraint-to = (right-within (r 8 (omega arith) (omega arith))).1
-
   -- no input is out of its range exactly where all are in theirs
   pub none-outside : (first_outside x ≡ None) ↔ InRange x
   none-outside = (

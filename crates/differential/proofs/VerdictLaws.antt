@@ -22,10 +22,6 @@ pub above-bend : (start slope restraint : ℕ) → 100 < restraint → 100 * sta
 unfolding characteristic
 above-bend start slope restraint h = rw (lt-leb restraint 100 h)
 
-pub first-side-below : (x : Inputs) → x.first < x.blocking → false ≡ both_block x
-unfolding both_block
-first-side-below x h = rw (lt-leb _ _ h)
-
 pub by-second-side : (x : Inputs) → x.blocking ≤ x.first → leb x.blocking x.second ≡ both_block x
 unfolding both_block
 by-second-side x h = rw (le-leb _ _ h)

@@ -3,15 +3,14 @@
 #![tactic(auto)]
 
 ghost use Rattle.std.specs.Prelude.{◌≡◌, ◌≤◌};
-ghost use Rattle.differential.specs.Given.{refused_with, done_with, differential_of};
+ghost use Rattle.differential.specs.Given.{given_for, differential_of};
 ghost use Rattle.differential.specs.Gets.{InRange};
 ghost use Rattle.differential.specs.Inputs.{first_outside};
 ghost use Rattle.differential.specs.Slope.{slope_to, least_slope};
 ghost use Rattle.differential.specs.Verdict.{characteristic, both_block, verdict_of, verdict_number};
 
-use answers::{Answer, numbers};
+use answers::{Refusal, numbers};
 use grid::{ceil_div, least_on};
-use layout::in_bounds;
 
 // There are so many inputs.
 pub const INPUTS: usize = 8;
@@ -37,8 +36,18 @@ pub enum Verdict {
     Blocked,
 }
 
-// What is given back: DONE with the card and the verdict's number, or a refusal with its place and all six 0.
+// The card, and the verdict on the measured pair. Its bend is always the same.
 #[derive(Clone, Copy)]
+struct Card {
+    pub start: u64,
+    pub slope: u64,
+    pub blocking: u64,
+    pub cutoff: u64,
+    pub verdict: Verdict,
+}
+
+// What is given back: DONE with the card and the verdict's number, or a refusal with its place and all six 0.
+#[derive(Clone, Copy, Default)]
 pub struct Given {
     pub number: u64,
     pub place: u64,
@@ -49,18 +58,6 @@ pub struct Given {
     pub cutoff: u64,
     pub verdict: u64,
 }
-
-// The least and the greatest number allowed, input by input.
-const RANGES: [u64; 2 * INPUTS] = [
-    20, 100, // start
-    150, 300, // blocking
-    650, 1200, // cutoff
-    100, 2000, // through
-    0, 10000, // first
-    0, 10000, // second
-    0, 10000, // differential
-    0, 10000, // restraint
-];
 
 // The slopes that the relay offers: 0.2, 0.3, .. 0.7.
 const SLOPE_FROM: u64 = 20;
@@ -74,29 +71,21 @@ const ONE: u64 = 100;
 
 const BEND: u64 = ONE;
 
-// The first input that is out of its range, from 0.
-fn first_outside(x: Inputs) -> Option<u64>
+// The first input that is out of its range, from 0: each with the least and the greatest number allowed.
+fn first_outside(x: Inputs) -> Option<usize>
     ensures { result ≡ first_outside x }
 {
-    let table = RANGES;
-    let values = [
-        x.start,
-        x.blocking,
-        x.cutoff,
-        x.through,
-        x.first,
-        x.second,
-        x.differential,
-        x.restraint,
+    let inputs = [
+        (x.start, 20, 100),
+        (x.blocking, 150, 300),
+        (x.cutoff, 650, 1200),
+        (x.through, 100, 2000),
+        (x.first, 0, 10000),
+        (x.second, 0, 10000),
+        (x.differential, 0, 10000),
+        (x.restraint, 0, 10000),
     ];
-    let mut k = 0;
-    while k < INPUTS {
-        if !in_bounds(&table, k, values[k]) {
-            return Some(k as u64);
-        }
-        k += 1;
-    }
-    None
+    inputs.iter().position(|(value, least, greatest)| !(*least..=*greatest).contains(value))
 }
 
 // The least slope that fits: of those that the relay offers the next one at or above what is wanted beyond the start, over what the
@@ -122,6 +111,7 @@ fn least_slope(start: u64, through: u64) -> Option<u64>
 }
 
 // The characteristic at a restraint, in hundredths of a hundredth.
+#[tactic(auto, unfolding(crate::specs::Verdict::characteristic))]
 fn characteristic_at(start: u64, slope: u64, restraint: u64) -> u64
     requires { (start ≤ 100) × (slope ≤ slope_to) × (restraint ≤ 10000) }
     ensures { result ≡ characteristic start slope restraint }
@@ -133,83 +123,89 @@ fn characteristic_at(start: u64, slope: u64, restraint: u64) -> u64
 }
 
 // Both sides are at or above blocking.
+#[tactic(auto, unfolding(crate::specs::Verdict::both_block))]
 fn both_block(x: Inputs) -> bool
     ensures { result ≡ both_block x }
 {
-    if x.first < x.blocking {
-        return false;
-    }
-    x.blocking <= x.second
+    x.blocking <= x.first && x.blocking <= x.second
 }
 
+#[tactic(auto, unfolding(crate::specs::Verdict::verdict_of))]
 fn judge(x: Inputs, slope: u64) -> Verdict
     requires { InRange x × (slope ≤ slope_to) }
     ensures { result ≡ verdict_of x slope }
 {
     if x.cutoff <= x.differential {
-        return Verdict::Trip;
-    }
-    if both_block(x) {
-        return Verdict::Blocked;
-    }
-    if characteristic_at(x.start, slope, x.restraint) <= 100 * x.differential {
+        Verdict::Trip
+    } else if both_block(x) {
+        Verdict::Blocked
+    } else if characteristic_at(x.start, slope, x.restraint) <= 100 * x.differential {
         Verdict::Trip
     } else {
         Verdict::Hold
     }
 }
 
-fn number_of(v: Verdict) -> u64
-    ensures { result ≡ verdict_number v }
-{
-    match v {
-        Verdict::Trip => 1,
-        Verdict::Hold => 2,
-        Verdict::Blocked => 3,
+impl From<Verdict> for u64 {
+    ghost from_gives = { λ v n. n ≡ verdict_number v };
+
+    fn from(v: Verdict) -> u64 {
+        match v {
+            Verdict::Trip => 1,
+            Verdict::Hold => 2,
+            Verdict::Blocked => 3,
+        }
     }
 }
 
-fn refused(a: Answer) -> Given
-    ensures { result ≡ refused_with a }
+// The card and the verdict, or the refusal: INPUT before SLOPE.
+#[tactic(auto, unfolding(crate::specs::Given::differential_of, crate::specs::Given::by_input, crate::specs::Given::by_slope))]
+fn card_of(x: Inputs) -> Result<Card, Refusal>
+    ensures { given_for result ≡ differential_of x }
 {
-    let n = numbers(a);
-    Given {
-        number: n[0],
-        place: n[1],
-        start: 0,
-        bend: 0,
-        slope: 0,
-        blocking: 0,
-        cutoff: 0,
-        verdict: 0,
+    if let Some(k) = first_outside(x) {
+        return Err(Refusal::Input(k as u64 + 1));
     }
-}
-
-fn done(x: Inputs, slope: u64) -> Given
-    requires { InRange x × (slope ≤ slope_to) }
-    ensures { result ≡ done_with x slope }
-{
-    Given {
-        number: 0,
-        place: 0,
+    let slope = least_slope(x.start, x.through).ok_or(Refusal::Slope)?;
+    Ok(Card {
         start: x.start,
-        bend: BEND,
         slope,
         blocking: x.blocking,
         cutoff: x.cutoff,
-        verdict: number_of(judge(x, slope)),
+        verdict: judge(x, slope),
+    })
+}
+
+impl From<Result<Card, Refusal>> for Given {
+    ghost from_gives = { λ card given. given ≡ given_for card };
+
+    fn from(card: Result<Card, Refusal>) -> Given {
+        match card {
+            Ok(card) => Given {
+                number: 0,
+                place: 0,
+                start: card.start,
+                bend: BEND,
+                slope: card.slope,
+                blocking: card.blocking,
+                cutoff: card.cutoff,
+                verdict: card.verdict.into(),
+            },
+            Err(why) => {
+                let [number, place, _] = numbers(Err(why));
+                Given {
+                    number,
+                    place,
+                    ..Given::default()
+                }
+            }
+        }
     }
 }
 
-// The card and the verdict for any eight numbers: INPUT before SLOPE.
+// The card and the verdict for any eight numbers.
 pub fn differential_card(x: Inputs) -> Given
     ensures { result ≡ differential_of x }
 {
-    if let Some(k) = first_outside(x) {
-        return refused(Answer::Input(k + 1));
-    }
-    match least_slope(x.start, x.through) {
-        Some(slope) => done(x, slope),
-        None => refused(Answer::Slope),
-    }
+    card_of(x).into()
 }

@@ -5,7 +5,7 @@ use lib.Dec.{leb}
 use mathlib.Core.Bool.{◌&&◌}
 use borrow.Author.Tests.{le-leb, leb-true}
 use Rattle.fold.proofs.BoolLaws.{same_test, and_left, and_right, and_both}
-use native.Mathlib.Nat.{le_trans, le-max_left, le-max_right, max-le, le-mul_of_pos_right, pos_of_ne-zero, div-add-mod', mod-lt, div-lt_iff_lt-mul}
+use native.Mathlib.Nat.{le_trans, le-max_left, le-max_right, max-le, div-add-mod', mod-lt, div-lt_iff_lt-mul}
 use native.Mathlib.Nat.{add-mul, one-mul, le_of_suc-le-suc, suc-mul, div-zero, div-eq_of_lt-le, mul-le-mul_right}
 use native.Mathlib.Omega.{arith}
 use Rattle.grid.specs.Round.{ceil_div}
@@ -20,27 +20,15 @@ unfolding ceil_div
 ceil_div-least n d x p h =
     le_of_suc-le-suc ((div-lt_iff_lt-mul p).1 (rw (suc-mul x d) (omega arith)))
 
--- the quotient, and one more where something is left over
+-- the quotient where nothing is left over
 pub ceil_div-exact : (n d : ℕ) → 0 < d → n % d ≡ 0 → n / d ≡ ceil_div n d
 unfolding ceil_div
 ceil_div-exact n d p z =
     sym (div-eq_of_lt-le d (omega (arith, div-add-mod' n d)) (rw (add-mul (n / d) 1 d, one-mul d) (omega (arith, div-add-mod' n d))))
 
-pub ceil_div-over : (n d : ℕ) → 0 < d → (n % d ≡ 0 → ⊥) → n / d + 1 ≡ ceil_div n d
-unfolding ceil_div
-ceil_div-over n d p z =
-    sym
-    (div-eq_of_lt-le d
-    (rw (add-mul (n / d) 1 d, one-mul d) (omega (arith, div-add-mod' n d, mod-lt n p)))
-    (rw (add-mul (n / d + 1) 1 d, add-mul (n / d) 1 d, one-mul d) (omega (arith, div-add-mod' n d, mod-lt n p))))
-
 pub ceil_div-by-zero : (n d : ℕ) → d ≡ 0 → 0 ≡ ceil_div n d
 unfolding ceil_div
 ceil_div-by-zero n d e = rw (e, div-zero)
-
--- one more than the quotient is at most n where something is left over
-pub over-fits : (n d : ℕ) → (d ≡ 0 → ⊥) → (n % d ≡ 0 → ⊥) → n / d + 1 ≤ n
-over-fits n d p z = omega (arith, div-add-mod' n d, le-mul_of_pos_right (n / d) (pos_of_ne-zero p))
 
 -- a bound rounded up, as a test: the quotient is at most x exactly where n is at most x * d
 pub ceil_div-leb : (n d x : ℕ) → 0 < d → leb (ceil_div n d) x ≡ leb n (x * d)

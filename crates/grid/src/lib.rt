@@ -5,23 +5,19 @@ ghost use Rattle.std.specs.Prelude.{◌≡◌, max, leb};
 ghost use Rattle.grid.specs.Grid.{least_on};
 ghost use Rattle.grid.specs.Round.{ceil_div};
 
-
 // The greater of two numbers.
 pub fn greater(a: u64, b: u64) -> u64
     ensures { result ≡ max a b }
 {
-    if a <= b { b } else { a }
+    a.max(b)
 }
 
 // n / d rounded up; 0 where d is 0.
+#[tactic(auto, unfolding(crate::specs::Round::ceil_div))]
 pub fn ceil_div(n: u64, d: u64) -> u64
     ensures { result ≡ ceil_div n d }
 {
-    if d == 0 {
-        return 0;
-    }
-    let q = n / d;
-    if n % d == 0 { q } else { q + 1 }
+    if d == 0 { 0 } else { n.div_ceil(d) }
 }
 
 // The least value of the grid at or above the bound.
@@ -31,7 +27,7 @@ pub fn least_on(low: u64, high: u64, step: u64, bound: u64) -> Option<u64>
     if step == 0 {
         return None;
     }
-    let from = greater(low, bound);
+    let from = low.max(bound);
     if high < from {
         return None;
     }

@@ -15,7 +15,8 @@ pub struct Primary(pub u64);
 #[derive(Clone, Copy)]
 pub struct Secondary(pub u64);
 
-// The rated primary and the rated secondary in A, 0 in both where a row has no ratio.
+// The rated primary and the rated secondary in A, 0 in both where a row has no ratio: no Option, as `Rated`, `scale` and what is said over
+// them are of the list's two numbers.
 #[derive(Clone, Copy)]
 pub struct Ratio {
     pub primary: u64,
@@ -31,17 +32,15 @@ pub const PRIMARY_MOST: u64 = 100000000;
 pub const SECONDARY_MOST: u64 = 500000;
 
 // Fifths of a primary mA for one mA at the relay.
+#[tactic(auto, unfolding(crate::specs::Sides::scale))]
 fn scale(q: Ratio) -> u64
     requires { Rated q }
     ensures { result ≡ scale q }
 {
-    if q.primary == 0 {
-        return FIFTHS;
-    }
-    if q.secondary == 1 {
-        FIFTHS * q.primary
-    } else {
-        q.primary
+    match (q.primary, q.secondary) {
+        (0, _) => FIFTHS,
+        (primary, 1) => FIFTHS * primary,
+        (primary, _) => primary,
     }
 }
 

@@ -13,11 +13,12 @@ use lib.Ieee.Exact.{HasValue}
 use lib.Ieee.Fits.{down_pos, and_l, and_r}
 use denote.Floats.{passes}
 use borrow.Author.Tests.{lt-ltb, le-leb}
-use Rattle.fold.proofs.BoolLaws.{and_both, zero-not-one}
+use Rattle.fold.proofs.BoolLaws.{and_both}
 use Rattle.single.specs.declared.Rounding.{Rounding}
 use Rattle.single.specs.declared.Rounding.TheVariants.{Up, Down}
 use Rattle.single.specs.declared.Sides.{Sides}
-use Rattle.single.specs.declared.Current.TheVariants.{Milliamperes, Refused}
+use Rattle.std.proofs.Common.{Some, None}
+use Rattle.std.proofs.lemmas.Option.{none-some}
 use Rattle.single.specs.Exact.{sides_of, used, HasSides}
 use Rattle.single.specs.SingleCurrent.{allowed, if_allowed, current_of, Gives, SidesAt}
 use Rattle.single.proofs.RoundLaws.{rounds-unique}
@@ -31,32 +32,29 @@ allowed-low k h = leb→le 1 k (and_l (leb 1 k) (leb k 100000000) h)
 pub allowed-high : (k : ℕ) → T (allowed k) → k ≤ 100000000
 allowed-high k h = leb→le k 100000000 (and_r (leb 1 k) (leb k 100000000) h)
 
-pub refused-is-none : (s : Sides) → Refused ≡ Milliamperes s → ⊥
-refused-is-none s h = zero-not-one cc
-
-allowed-given : (to : Rounding) (w s : Sides) → if_allowed to w ≡ Milliamperes s → (w ≡ s) × T (allowed (used to w))
+allowed-given : (to : Rounding) (w s : Sides) → if_allowed to w ≡ Some s → (w ≡ s) × T (allowed (used to w))
 allowed-given to w s h = go (allowed (used to w)) refl h
   where
-    go : (b : Bool) → allowed (used to w) ≡ b → cond b (Milliamperes w) Refused ≡ Milliamperes s → (w ≡ s) × T (allowed (used to w))
+    go : (b : Bool) → allowed (used to w) ≡ b → cond b (Some w) None ≡ Some s → (w ≡ s) × T (allowed (used to w))
     go true e g = (cc, passes (allowed (used to w)) e)
-    go false e g = absurd (refused-is-none s g)
+    go false e g = absurd (none-some s g)
 
-given-allowed : (to : Rounding) (s : Sides) → 1 ≤ used to s → used to s ≤ 100000000 → if_allowed to s ≡ Milliamperes s
-given-allowed to s low high = ap (λ (t : Bool). cond t (Milliamperes s) Refused) (and_both (le-leb 1 (used to s) low) (le-leb (used to s) 100000000 high))
+given-allowed : (to : Rounding) (s : Sides) → 1 ≤ used to s → used to s ≤ 100000000 → if_allowed to s ≡ Some s
+given-allowed to s low high = ap (λ (t : Bool). cond t (Some s) None) (and_both (le-leb 1 (used to s) low) (le-leb (used to s) 100000000 high))
 
 -- ---- `Gives` and `SidesAt`
 
 module _ (to : Rounding) (n d : ℕ) (s : Sides) (D : 0 < d) where
-  given-sides : if_allowed to (sides_of n d) ≡ Milliamperes s → HasSides n d s × (1 ≤ used to s) × (used to s ≤ 100000000)
+  given-sides : if_allowed to (sides_of n d) ≡ Some s → HasSides n d s × (1 ≤ used to s) × (used to s ≤ 100000000)
   given-sides h =
       let g = allowed-given to (sides_of n d) s h in
       let a : T (allowed (used to s)) = subst (λ (w : Sides). T (allowed (used to w))) g.0 g.1 in
       (subst (HasSides n d) g.0 (sides-are n d D), allowed-low (used to s) a, allowed-high (used to s) a)
 
-  sides-given : HasSides n d s → 1 ≤ used to s → used to s ≤ 100000000 → if_allowed to (sides_of n d) ≡ Milliamperes s
+  sides-given : HasSides n d s → 1 ≤ used to s → used to s ≤ 100000000 → if_allowed to (sides_of n d) ≡ Some s
   sides-given h low high = ap (if_allowed to) (sides-unique n d (sides_of n d) (sides-are n d D) s h) ∙ given-allowed to s low high
 
-pub negative-refused : (to : Rounding) (m : ℕ) (e : ℤ) (scale : ℕ) → 0 < m → current_of to (fin true m e) scale ≡ Refused
+pub negative-refused : (to : Rounding) (m : ℕ) (e : ℤ) (scale : ℕ) → 0 < m → current_of to (fin true m e) scale ≡ None
 unfolding current_of
 negative-refused to m e scale h = simp (lt-ltb 0 m h)
 
@@ -69,16 +67,16 @@ not_negative to true zero e scale h = refl
 not_negative to true (suc m) e scale h = absurd (omega (arith, h refl))
 
 given-not-negative :
-    (to : Rounding) (t : Bool) (m : ℕ) (e : ℤ) (scale : ℕ) (s : Sides) → current_of to (fin t m e) scale ≡ Milliamperes s → t ≡ true → m ≡ 0
+    (to : Rounding) (t : Bool) (m : ℕ) (e : ℤ) (scale : ℕ) (s : Sides) → current_of to (fin t m e) scale ≡ Some s → t ≡ true → m ≡ 0
 given-not-negative to false m e scale s h p = absurd (true≢false (sym p))
 given-not-negative to true zero e scale s h p = refl
-given-not-negative to true (suc m) e scale s h p = absurd (refused-is-none s (sym (negative-refused to (suc m) e scale (zero-lt-suc m)) ∙ h))
+given-not-negative to true (suc m) e scale s h p = absurd (none-some s (sym (negative-refused to (suc m) e scale (zero-lt-suc m)) ∙ h))
 
-pub current-gives : (to : Rounding) (x : Float) (scale : ℕ) (s : Sides) → current_of to x scale ≡ Milliamperes s
+pub current-gives : (to : Rounding) (x : Float) (scale : ℕ) (s : Sides) → current_of to x scale ≡ Some s
     → Gives to x scale (used to s) × SidesAt x scale s
 unfolding current_of
-current-gives to nan scale s h = absurd (refused-is-none s h)
-current-gives to (inf t) scale s h = absurd (refused-is-none s h)
+current-gives to nan scale s h = absurd (none-some s h)
+current-gives to (inf t) scale s h = absurd (none-some s h)
 current-gives to (fin t m e) scale s h =
     let sign = given-not-negative to t m e scale s h in
     let g = given-sides to (m * up e * scale) (down e) s (down_pos e) (sym (not_negative to t m e scale sign) ∙ h) in
@@ -91,7 +89,7 @@ used-is-side to (inf t) scale k s h g = absurd h
 used-is-side to (fin t m e) scale k s h g = rounds-unique to _ _ k (used to s) h.1 (used-rounds _ _ s g.1 to)
 
 pub gives-current :
-    (to : Rounding) (x : Float) (scale k : ℕ) (s : Sides) → Gives to x scale k → SidesAt x scale s → current_of to x scale ≡ Milliamperes s
+    (to : Rounding) (x : Float) (scale k : ℕ) (s : Sides) → Gives to x scale k → SidesAt x scale s → current_of to x scale ≡ Some s
 gives-current to nan scale k s h g = absurd h
 gives-current to (inf t) scale k s h g = absurd h
 gives-current to (fin t m e) scale k s h g =
@@ -134,21 +132,21 @@ gives-range to (fin t m e) scale k h = (h.2, h.3)
 -- ---- other refusals
 
 -- zero has 0 on both sides, which is not allowed
-zero-mA : (to : Rounding) (e : ℤ) (scale : ℕ) → if_allowed to (sides_of (0 * up e * scale) (down e)) ≡ Refused
+zero-mA : (to : Rounding) (e : ℤ) (scale : ℕ) → if_allowed to (sides_of (0 * up e * scale) (down e)) ≡ None
 zero-mA to e scale =
     let none : 0 * up e * scale * 1 ≡ 0 * down e = mul-one (0 * up e * scale) ∙ ap (λ (n : ℕ). n * scale) (zero-mul (up e)) ∙ zero-mul scale ∙ sym
     (zero-mul (down e)) in
     ap (if_allowed to) (sides-same (0 * up e * scale) (down e) 0 1 (down_pos e) (pow_pos 0) none) ∙ neither to
   where
-    neither : (to : Rounding) → if_allowed to (sides_of 0 1) ≡ Refused
+    neither : (to : Rounding) → if_allowed to (sides_of 0 1) ≡ None
     neither Up = refl
     neither Down = refl
 
-pub nan-refused : (to : Rounding) (x : Float) (scale : ℕ) → is_nan x ≡ true → current_of to x scale ≡ Refused
+pub nan-refused : (to : Rounding) (x : Float) (scale : ℕ) → is_nan x ≡ true → current_of to x scale ≡ None
 unfolding current_of is_nan
 nan-refused to nan scale h = refl
 nan-refused to (inf s) scale h = refl
 nan-refused to (fin s m e) scale h = absurd (true≢false (sym h))
 
-pub zero-refused : (to : Rounding) (s : Bool) (e : ℤ) (scale : ℕ) → current_of to (fin s 0 e) scale ≡ Refused
+pub zero-refused : (to : Rounding) (s : Bool) (e : ℤ) (scale : ℕ) → current_of to (fin s 0 e) scale ≡ None
 zero-refused to s e scale = not_negative to s 0 e scale (λ t. refl) ∙ zero-mA to e scale

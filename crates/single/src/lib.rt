@@ -11,7 +11,7 @@ ghost use Rattle.single.specs.Exact.{sides_of, used};
 ghost use Rattle.single.specs.Parts.{parts_of, Scalable, ScaledBy, Roundable};
 ghost use Rattle.single.specs.SingleCurrent.{allowed, current_of};
 
-use grid::{ceil_div, greater};
+use grid::ceil_div;
 
 // The whole mA on both sides of an exact current: the greatest not above it and the least not below it [02 §9].
 #[derive(Clone, Copy)]
@@ -20,13 +20,7 @@ pub struct Sides {
     pub upper: u64,
 }
 
-// A current by both its sides, of which the one that is used is from 1 to 100,000,000 mA, or a refusal.
-#[derive(Clone, Copy)]
-pub enum Current {
-    Milliamperes(Sides),
-    Refused,
-}
-
+// A value and no closure, as `given-sound`, `given-complete` and what rests on them are over both.
 #[derive(Clone, Copy)]
 pub enum Rounding {
     Up,
@@ -65,12 +59,12 @@ pub fn used(sides: Sides, to: Rounding) -> u64
     }
 }
 
-// Bit 31, bits 30 to 23 and bits 22 to 0: 0x8000_0000 is 2 ^ 31, and 0x80_0000 is 2 ^ 23. Only what is not a number differs from itself; Rattle gives
-// no bits for it, and one pattern, with exponent 255, stands for all.
+// Bit 31, bits 30 to 23 and bits 22 to 0: 0x8000_0000 is 2 ^ 31, and 0x80_0000 is 2 ^ 23. Of what is not a number Rattle gives no bits: one
+// pattern, with exponent 255, stands for all.
 fn parts_of(x: f32) -> Parts
     ensures { result ≡ parts_of (to_bits binary32 x) }
 {
-    let bits = if x != x {
+    let bits = if x.is_nan() {
         0x7fc0_0000
     } else {
         f32::to_bits(x) as u64
@@ -89,14 +83,15 @@ fn scaled(parts: Parts, scale: u64) -> Product
     ensures { ScaledBy parts scale result }
 {
     if parts.exponent == 0 {
-        return Product {
+        Product {
             mantissa: parts.fraction * scale,
             power: 0,
-        };
-    }
-    Product {
-        mantissa: (0x80_0000 + parts.fraction) * scale,
-        power: parts.exponent - 1,
+        }
+    } else {
+        Product {
+            mantissa: (0x80_0000 + parts.fraction) * scale,
+            power: parts.exponent - 1,
+        }
     }
 }
 
@@ -114,33 +109,28 @@ fn rounded(product: Product) -> Sides
     }
     // Below, it is mantissa / 2 ^ (149 - power). The mantissa is below 2 ^ 24 * 2 ^ 27, so over 2 ^ 51 or more it is below 1: 0 rounded down, and 1 up
     // unless it is 0. So 2 ^ 51, at power 98, stands for all of these.
-    let den = 1u64 << (149 - greater(product.power, 98));
+    let den = 1u64 << (149 - product.power.max(98));
     Sides {
         lower: product.mantissa / den,
         upper: ceil_div(product.mantissa, den),
     }
 }
 
-// A single times a scale, by the whole mA on both its sides; refused where the one that is used is not allowed. The scale, in mA for each unit of the
-// single, is from 1 to 100,000,000.
-pub fn whole_current(x: f32, scale: u64, to: Rounding) -> Current
+// A single times a scale, by the whole mA on both its sides; none where the one that is used is not from 1 to 100,000,000. So is the scale, in
+// mA for each unit of the single.
+pub fn whole_current(x: f32, scale: u64, to: Rounding) -> Option<Sides>
     requires { T (allowed scale) }
     ensures { result ≡ current_of to x scale }
 {
     let parts = parts_of(x);
     // From exponent 154 on it is, but for its sign, 2 ^ 23 * 2 ^ 153 / 2 ^ 149 or more: 134,217,728, too much at every scale. At 255 it is not finite.
     if 154 <= parts.exponent {
-        return Current::Refused;
+        return None;
     }
     // Negative, or minus zero, which counts as zero: neither comes to 1 mA.
     if parts.sign == 1 {
-        return Current::Refused;
+        return None;
     }
-    let product = scaled(parts, scale);
-    let sides = rounded(product);
-    if allowed_current(used(sides, to)) {
-        Current::Milliamperes(sides)
-    } else {
-        Current::Refused
-    }
+    let sides = rounded(scaled(parts, scale));
+    allowed_current(used(sides, to)).then_some(sides)
 }

@@ -10,8 +10,7 @@ use lib.Dec.{T, eqb}
 use borrow.Author.Tests.{eq-eqb}
 use Rattle.fold.proofs.BoolLaws.{and_left, and_right, and_both, fails, not-both}
 use Rattle.single.specs.declared.Sides.{Sides}
-use Rattle.single.specs.declared.Current.{Current}
-use Rattle.single.specs.declared.Current.TheVariants.{Milliamperes, Refused}
+use Rattle.std.proofs.Common.{Option, Some, None}
 use Rattle.single.specs.declared.Rounding.TheVariants.{Up, Down}
 use Rattle.study.specs.declared.Study.{Study}
 use Rattle.study.specs.declared.Converted.{Converted}
@@ -47,18 +46,18 @@ module _ (s : Study) where
   )
 
   gets_by :
-      (b : Bool) (g l : Current) → fits ≡ b → reading_of Up s.greatest ≡ g → reading_of Down s.least ≡ l →
+      (b : Bool) (g l : Option Sides) → fits ≡ b → reading_of Up s.greatest ≡ g → reading_of Down s.least ≡ l →
       StudyGets s (cond b (answer_of g l) (refused_at 0))
   gets_by false g l e eg el =
       let z : StudyGets s (study_at 0) = rated-outside (λ h. not-both (rated-right.1 h) e) in
       z
-  gets_by true Refused l e eg el =
+  gets_by true None l e eg el =
       let z : StudyGets s (study_at 1) = no-greatest (rated-right.0 e) (refused_none Up s.greatest eg) in
       z
-  gets_by true (Milliamperes g) Refused e eg el =
+  gets_by true (Some g) None e eg el =
       let z : StudyGets s (study_at 2) = no-least g.upper (rated-right.0 e) (reading-gives Up s.greatest g eg).0 (refused_none Down s.least el) in
       z
-  gets_by true (Milliamperes g) (Milliamperes l) e eg el =
+  gets_by true (Some g) (Some l) e eg el =
       let of-greatest = reading-gives Up s.greatest g eg in
       let of-least = reading-gives Down s.least l el in
       let z : StudyGets s (done_with g.upper l.lower g l) = both g.upper l.lower g l (rated-right.0 e)
@@ -70,21 +69,21 @@ module _ (s : Study) where
   gets = gets_by fits (reading_of Up s.greatest) (reading_of Down s.least) refl refl refl
 
   answer-by :
-      (b : Bool) (g l : Current) → fits ≡ b → reading_of Up s.greatest ≡ g → reading_of Down s.least ≡ l →
+      (b : Bool) (g l : Option Sides) → fits ≡ b → reading_of Up s.greatest ≡ g → reading_of Down s.least ≡ l →
       convert_of s ≡ cond b (answer_of g l) (refused_at 0)
   unfolding convert_of fits
   answer-by b g l e eg el = λ t. cond (e t) (answer_of (eg t) (el t)) (refused_at 0)
 
   got : {r : Converted} → StudyGets s r → convert_of s ≡ r
   got (both g l gs ls w hg hl hgs hls) =
-      answer-by true (Milliamperes gs) (Milliamperes ls) (rated-right.1 w) (gives-reading Up s.greatest g gs hg hgs)
+      answer-by true (Some gs) (Some ls) (rated-right.1 w) (gives-reading Up s.greatest g gs hg hgs)
       (gives-reading Down s.least l ls hl hls)
       ∙ sym (λ i. done_with (reading-used Up s.greatest g gs hg hgs i) (reading-used Down s.least l ls hl hls i) gs ls)
   got (rated-outside n) = answer-by false _ _ (fails fits (λ t. n (rated-right.0 t))) refl refl
-  got (no-greatest w n) = answer-by true Refused _ (rated-right.1 w) (none-refused Up s.greatest n) refl
+  got (no-greatest w n) = answer-by true None _ (rated-right.1 w) (none-refused Up s.greatest n) refl
   got (no-least g w hg n) =
       let sided = reading-sides Up s.greatest g hg in
-      answer-by true (Milliamperes sided.0) Refused (rated-right.1 w) (gives-reading Up s.greatest g sided.0 hg sided.1)
+      answer-by true (Some sided.0) None (rated-right.1 w) (gives-reading Up s.greatest g sided.0 hg sided.1)
       (none-refused Down s.least n)
 
   pub study-exactly : (r : Converted) → (convert_of s ≡ r) ↔ StudyGets s r

@@ -11,10 +11,10 @@ use Rattle.fold.proofs.BoolLaws.{and_left, and_right, and_both}
 use Rattle.single.specs.Exact.{used}
 use Rattle.single.specs.SingleCurrent.{allowed, Gives, SidesAt}
 use Rattle.single.specs.declared.Sides.{Sides}
-use Rattle.single.specs.declared.Current.{Current}
-use Rattle.single.specs.declared.Current.TheVariants.{Milliamperes, Refused}
+use Rattle.std.proofs.Common.{Option, Some, None}
+use Rattle.std.proofs.lemmas.Option.{none-some}
 use Rattle.single.specs.declared.Rounding.{Rounding}
-use Rattle.single.proofs.CurrentLaws.{refused-is-none, current-gives, gives-current, gives-sides, used-is-side}
+use Rattle.single.proofs.CurrentLaws.{current-gives, gives-current, gives-sides, used-is-side}
 use Rattle.study.specs.declared.Quantity.{Quantity}
 use Rattle.study.specs.declared.Quantity.TheVariants.{Amperes, Kiloamperes, PerUnit}
 use Rattle.study.specs.declared.Reading.{Reading}
@@ -49,10 +49,10 @@ module _ (to : Rounding) (r : Reading) where
   pub sides-at : (s : Sides) → ReadingSides r s ↔ SidesAt x scale s
   sides-at s = in-unit (λ y n. SidesAt y n s) r.quantity r.rated
 
-  pub reading-gives : (s : Sides) → reading_of to r ≡ Milliamperes s → ReadingGives to r (used to s) × ReadingSides r s
+  pub reading-gives : (s : Sides) → reading_of to r ≡ Some s → ReadingGives to r (used to s) × ReadingSides r s
   reading-gives s e = let w = current-gives to x scale s e in ((gives_at (used to s)).1 w.0, (sides-at s).1 w.1)
 
-  pub gives-reading : (k : ℕ) (s : Sides) → ReadingGives to r k → ReadingSides r s → reading_of to r ≡ Milliamperes s
+  pub gives-reading : (k : ℕ) (s : Sides) → ReadingGives to r k → ReadingSides r s → reading_of to r ≡ Some s
   gives-reading k s h g = gives-current to x scale k s ((gives_at k).0 h) ((sides-at s).0 g)
 
   pub reading-used : (k : ℕ) (s : Sides) → ReadingGives to r k → ReadingSides r s → k ≡ used to s
@@ -61,14 +61,14 @@ module _ (to : Rounding) (r : Reading) where
   pub reading-sides : (k : ℕ) → ReadingGives to r k → (s : Sides) × ReadingSides r s
   reading-sides k h = let w = gives-sides to x scale k ((gives_at k).0 h) in (w.0, (sides-at w.0).1 w.1)
 
-  pub none-refused : ReadingGivesNone to r → reading_of to r ≡ Refused
+  pub none-refused : ReadingGivesNone to r → reading_of to r ≡ None
   none-refused n = by_cases (reading_of to r) refl
     where
-      by_cases : (c : Current) → reading_of to r ≡ c → reading_of to r ≡ Refused
-      by_cases (Milliamperes s) e = absurd (n (used to s) (reading-gives s e).0)
-      by_cases Refused e = e
+      by_cases : (c : Option Sides) → reading_of to r ≡ c → reading_of to r ≡ None
+      by_cases (Some s) e = absurd (n (used to s) (reading-gives s e).0)
+      by_cases None e = e
 
-  pub refused_none : reading_of to r ≡ Refused → ReadingGivesNone to r
+  pub refused_none : reading_of to r ≡ None → ReadingGivesNone to r
   refused_none e k h =
       let sided = reading-sides k h in
-      refused-is-none sided.0 (sym e ∙ gives-reading k sided.0 h sided.1)
+      none-some sided.0 (sym e ∙ gives-reading k sided.0 h sided.1)

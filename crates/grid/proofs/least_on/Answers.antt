@@ -10,12 +10,12 @@ pub returns-then-step-eq0 : goal.returns-then-step-eq0
 returns-then-step-eq0 c = sym (least_on-no-step _ _ _ _ c.if-step-eq0.true)
 
 pub returns-then-high-from : goal.returns-then-high-from
-returns-then-high-from c = sym (least_on-past-high _ _ _ _ _ (pos_of_ne-zero c.if-step-eq0.false) c.greater-from.ensures c.if-high-from.true)
+returns-then-high-from c = sym (least_on-past-high _ _ _ _ _ (pos_of_ne-zero c.if-step-eq0.false) c.max-from.ensures c.if-high-from.true)
 
 pub returns-then-high-from-2 : goal.returns-then-high-from-2
 returns-then-high-from-2 c =
     let p = pos_of_ne-zero c.if-step-eq0.false in
-    let q = c.greater-from.ensures in
+    let q = c.max-from.ensures in
     elim c.if-past-eq0.branch [
       | then-past-eq0 w ↦ sym (least_on-next-past _ _ _ _ _ p q _ (next_here _ _ _ _ _ p q _ w.if-past-eq0.true w.up-is) (omega arith))
       | else-past-eq0 w ↦ sym (least_on-next-past _ _ _ _ _ p q _ (next_past _ _ _ _ _ p q _ w.if-past-eq0.false w.up-is) (omega arith))
@@ -24,7 +24,7 @@ returns-then-high-from-2 c =
 pub returns-else-high-from-2 : goal.returns-else-high-from-2
 returns-else-high-from-2 c =
     let p = pos_of_ne-zero c.if-step-eq0.false in
-    let q = c.greater-from.ensures in
+    let q = c.max-from.ensures in
     elim c.if-past-eq0.branch [
       | then-past-eq0 w ↦ sym (least_on-next _ _ _ _ _ p q _ (next_here _ _ _ _ _ p q _ w.if-past-eq0.true w.up-is) (omega arith))
       | else-past-eq0 w ↦ sym (least_on-next _ _ _ _ _ p q _ (next_past _ _ _ _ _ p q _ w.if-past-eq0.false w.up-is) (omega arith))

@@ -4,8 +4,8 @@ use native.Mathlib.Omega.{arith}
 use Rattle.single.proofs.ScaleLaws.{mantissa-small, scaled-above-0}
 use Rattle.single.proofs.scaled.Goals as goal
 
-pub returns : goal.returns
-returns c =
+pub returns-else-parts-eq0 : goal.returns-else-parts-eq0
+returns-else-parts-eq0 c =
     record {
       exact = scaled-above-0 _ _ _ c.if-parts-eq0.false;
       small = record {
