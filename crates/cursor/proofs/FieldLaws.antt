@@ -1,52 +1,22 @@
 -- A field, which is a cell with the comma before it unless it is a line's first, met at a cursor on the bytes s.
+use Rattle.std.proofs.Common.{Option, None}
 use mathlib.Core.Path.{◌≡◌, refl, sym, ap, ◌∙◌}
 use mathlib.Core.Bool.{Bool, true, false, cond, ◌&&◌}
 use mathlib.Core.Logic.{◌⊎◌, inl, inr, ⊎_elim}
 use mathlib.Core.List.{List, ◌∷◌}
-use Prim.Native.Nat.{ℕ, ◌+◌, ◌≤◌}
+use Prim.Native.Nat.{ℕ, ◌+◌}
 use native.Mathlib.Numerals.{one-add}
 use native.Mathlib.Omega.{arith}
 use lib.Dec.{eqb}
-use lib.ListN.{length, drop, get_or, get_or-eq_default}
+use lib.ListN.{drop, get_or}
 use lib.Seq.{drop-drop}
-use borrow.Author.Tests.{eq-eqb, ne_eqb}
 use Rattle.fold.proofs.BoolLaws.{zero-not-one}
 use Rattle.cursor.specs.declared.Column.{Column}
 use Rattle.cursor.specs.declared.Cursor.{Cursor}
-use Rattle.cursor.specs.declared.CellRead.{CellRead}
-use Rattle.cursor.specs.declared.CellRead.TheVariants.{NumberCell, NameCell, NoCell}
-use Rattle.cursor.specs.Pieces.{moved, is_comma, is_cell, cell_length, after_cell, cell_at, field_at}
+use Rattle.cursor.specs.declared.Cell.{Cell}
+use Rattle.cursor.specs.declared.Cell.TheVariants.{Number}
+use Rattle.cursor.specs.Pieces.{cell_read, name_cell, moved, is_comma, is_cell, cell_length, after_cell, cell_at, field_at}
 use Rattle.cursor.proofs.CellLaws.{CellIs, NumberIs, NameIs, number_is, name-is, none_is}
-use Rattle.cursor.proofs.RunLaws.{first-left}
-
--- a comma comes next at the place i
-pub comma-there : (s : List ℕ) (i : ℕ) → get_or s i 0 ≡ 44 → is_comma (drop i s) ≡ true
-unfolding is_comma
-comma-there s i h = rw (first-left, eq-eqb (get_or s i 0) 44 h)
-
-pub comma-not-there : (s : List ℕ) (i : ℕ) → (get_or s i 0 ≡ 44 → ⊥) → is_comma (drop i s) ≡ false
-unfolding is_comma
-comma-not-there s i h = rw (first-left, ne_eqb (get_or s i 0) 44 h)
-
-pub comma-over : (s : List ℕ) (i : ℕ) → length s ≤ i → is_comma (drop i s) ≡ false
-unfolding is_comma
-comma-over s i h = rw (first-left, get_or-eq_default s 0 h)
-
--- a field: the line's first, one without its comma, one with it
-module _ (first : Bool) (column : Column) (c : Cursor) where
-  pub field-first : (l : List ℕ) → first ≡ true → cell_at column c l ≡ field_at first column c l
-  unfolding field_at
-  field-first l e = rw e
-
-  pub field-none : (l : List ℕ) → first ≡ false → is_comma l ≡ false → NoCell ≡ field_at first column c l
-  unfolding field_at
-  field-none l e h = rw (e, h)
-
-  pub field-cell :
-      (s : List ℕ) → first ≡ false → is_comma (drop c.at s) ≡ true →
-      cell_at column (moved c 1) (drop (c.at + 1) s) ≡ field_at first column c (drop c.at s)
-  unfolding field_at
-  field-cell s e h = rw (e, h, drop-drop 1 c.at s)
 
 -- the bytes with the comma that a line's first cell lacks, and where the cell starts
 abbrev pub lead : Bool → List ℕ → List ℕ
@@ -54,10 +24,6 @@ lead first l = cond first (44 ∷ l) l
 
 abbrev pub start_of : Bool → ℕ → ℕ
 start_of first i = cond first i (i + 1)
-
-pub lead-behind : (first : Bool) (s : List ℕ) (i : ℕ) → drop 1 (lead first (drop i s)) ≡ drop (start_of first i) s
-lead-behind true s i = refl
-lead-behind false s i = drop-drop 1 i s
 
 lead_after :
     (first : Bool) (column : Column) (s : List ℕ) (i : ℕ) →
@@ -80,25 +46,25 @@ module _ (first : Bool) (column : Column) (s : List ℕ) (c d : Cursor) where
 
 -- a field is a cell behind a comma, the first cell's comma being the one put before it
 cell-of-field :
-    (first : Bool) (column : Column) (s : List ℕ) (c : Cursor) (r : CellRead) → r ≡ field_at first column c (drop c.at s) →
+    (first : Bool) (column : Column) (s : List ℕ) (c : Cursor) (r : Option (Cell × Cursor)) → r ≡ field_at first column c (drop c.at s) →
     ((is_comma (lead first (drop c.at s)) ≡ true) ×
     (r ≡ cell_at column (record { at = start_of first c.at; line = c.line }) (drop 1 (lead first (drop c.at s))))) ⊎
-    ((is_comma (lead first (drop c.at s)) ≡ false) × (r ≡ NoCell))
+    ((is_comma (lead first (drop c.at s)) ≡ false) × (r ≡ None))
 unfolding field_at is_comma
 cell-of-field true column s c r e = inl (refl, e)
 cell-of-field false column s c r e = by-test (eqb (get_or (drop c.at s) 0 0) 44) refl e
   where
     by-test :
         (t : Bool) → eqb (get_or (drop c.at s) 0 0) 44 ≡ t →
-        r ≡ cond t (cell_at column (moved c 1) (drop 1 (drop c.at s))) NoCell →
+        r ≡ cond t (cell_at column (moved c 1) (drop 1 (drop c.at s))) None →
         ((eqb (get_or (drop c.at s) 0 0) 44 ≡ true) × (r ≡ cell_at column (moved c 1) (drop 1 (drop c.at s)))) ⊎
-        ((eqb (get_or (drop c.at s) 0 0) 44 ≡ false) × (r ≡ NoCell))
+        ((eqb (get_or (drop c.at s) 0 0) 44 ≡ false) × (r ≡ None))
     by-test true t e = inl (t, e)
     by-test false t e = inr (t, e)
 
 module _ (first : Bool) (column : Column) (s : List ℕ) (c : Cursor) where
   pub number-field :
-      (v : ℕ) (d : Cursor) → NumberCell v d ≡ field_at first column c (drop c.at s) →
+      (v : ℕ) (d : Cursor) → cell_read (Number v) d ≡ field_at first column c (drop c.at s) →
       FieldWas first column s c.at d × NumberIs column (start_of first c.at) (drop 1 (lead first (drop c.at s))) v d
   number-field v d e =
       ⊎_elim
@@ -106,10 +72,10 @@ module _ (first : Bool) (column : Column) (s : List ℕ) (c : Cursor) where
       let n = number_is column (record { at = start_of first c.at; line = c.line }) d (drop 1 (lead first (drop c.at s))) v w.1 in
       (record { comma = w.0; behind = behind first column s c d n.cell }, n))
       (λ w. absurd (zero-not-one (let q = w.1 in cc)))
-      (cell-of-field first column s c (NumberCell v d) e)
+      (cell-of-field first column s c (cell_read (Number v) d) e)
 
   pub name-field :
-      (a n : ℕ) (d : Cursor) → NameCell a n d ≡ field_at first column c (drop c.at s) →
+      (a n : ℕ) (d : Cursor) → cell_read (name_cell a n) d ≡ field_at first column c (drop c.at s) →
       FieldWas first column s c.at d × NameIs column (start_of first c.at) (drop 1 (lead first (drop c.at s))) a n d
   name-field a n d e =
       ⊎_elim
@@ -117,13 +83,13 @@ module _ (first : Bool) (column : Column) (s : List ℕ) (c : Cursor) where
       let m = name-is column (record { at = start_of first c.at; line = c.line }) d (drop 1 (lead first (drop c.at s))) a n w.1 in
       (record { comma = w.0; behind = behind first column s c d m.cell }, m))
       (λ w. absurd (zero-not-one (let q = w.1 in cc)))
-      (cell-of-field first column s c (NameCell a n d) e)
+      (cell-of-field first column s c (cell_read (name_cell a n) d) e)
 
   pub no_field :
-      NoCell ≡ field_at first column c (drop c.at s) →
+      None ≡ field_at first column c (drop c.at s) →
       (is_comma (lead first (drop c.at s)) && is_cell column (drop 1 (lead first (drop c.at s)))) ≡ false
   no_field e =
       ⊎_elim
       (λ w. rw w.0 (none_is column (record { at = start_of first c.at; line = c.line }) (drop 1 (lead first (drop c.at s))) w.1))
       (λ w. rw w.0)
-      (cell-of-field first column s c NoCell e)
+      (cell-of-field first column s c None e)

@@ -6,5 +6,4 @@ pub mod DecimalLaws
 pub mod FieldLaws
 pub mod NameLaws
 pub mod NumberLaws
-pub mod QuoteLaws
 pub mod RunLaws

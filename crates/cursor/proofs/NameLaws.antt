@@ -1,43 +1,20 @@
 -- A name read at the place i of the bytes w, how a name's place moves with its start, and what a name that was read says.
-use Rattle.std.proofs.Common.{Option, Some, None}
-use mathlib.Core.Path.{◌≡◌, refl, sym}
+use Rattle.std.proofs.lemmas.List.{drop-take}
+use Rattle.std.proofs.Common.{min, ⊎_elim, ◌<◌, ◌≤◌, length-drop, take_all, Option, Some, None}
+use mathlib.Core.Path.{◌≡◌, refl}
 use mathlib.Core.Bool.{Bool, true, false, cond}
 use mathlib.Core.List.{List, [], ◌∷◌}
-use Prim.Native.Nat.{ℕ, zero, suc, ◌+◌, ◌-◌, ◌≤◌}
-use native.Mathlib.Nat.{add_assoc, zero-add, suc-add}
+use Prim.Native.Nat.{ℕ, ◌+◌}
+use native.Mathlib.Nat.{add_assoc, zero-add}
 use native.Mathlib.Omega.{arith}
 use lib.Dec.{eqb}
-use lib.ListN.{length, take, drop, get_or, drop_of_length-le, length-drop}
-use lib.Seq.{drop-drop, take_all, take-nil}
-use borrow.Author.Tests.{eq-eqb, ne_eqb}
-use Rattle.fold.proofs.BoolLaws.{zero-not-one}
+use lib.ListN.{length, take, drop, get_or, length-drop}
+use lib.Seq.{take_all}
+use Rattle.fold.proofs.BoolLaws.{zero-not-one, lt-or-le}
 use Rattle.cursor.specs.declared.Class.TheVariants.{Bare}
 use Rattle.cursor.specs.declared.Cursor.{Cursor}
-use Rattle.cursor.specs.declared.NameRead.TheVariants.{Name, NoName}
 use Rattle.cursor.specs.Bytes.{plain_byte, passes, run}
 use Rattle.cursor.specs.Pieces.{moved, plain_part, quote_part, name_most, bare_end, name_end, is_found, place_found, is_name, name_length, name_at, name_to}
-use Rattle.cursor.proofs.RunLaws.{first-left}
-
-module _ (w : List ℕ) (i : ℕ) where
-  pub name-over : length w ≤ i → name_end i (drop i w) ≡ None
-  unfolding name_end bare_end run
-  name-over h = rw (drop_of_length-le w h)
-
-  pub name-quoted : get_or w i 0 ≡ 34 → name_end i (drop i w) ≡ plain_part (i + 1) (drop (i + 1) w)
-  unfolding name_end
-  name-quoted h = rw (first-left, eq-eqb (get_or w i 0) 34 h, drop-drop 1 i w)
-
-  pub name-bare : (get_or w i 0 ≡ 34 → ⊥) → name_end i (drop i w) ≡ bare_end i (run (passes Bare) (drop i w))
-  unfolding name_end
-  name-bare h = rw (first-left, ne_eqb (get_or w i 0) 34 h)
-
-pub bare-none : (i n : ℕ) → i + n ≡ i → bare_end i n ≡ None
-unfolding bare_end
-bare-none i n h = rw (eq-eqb n 0 (omega arith))
-
-pub bare-some : (i n : ℕ) → (i + n ≡ i → ⊥) → bare_end i n ≡ Some (i + n)
-unfolding bare_end
-bare-some i n h = rw (ne_eqb n 0 (λ z. h (omega arith)))
 
 -- a place i further on
 abbrev pub further : ℕ → Option ℕ → Option ℕ
@@ -79,41 +56,38 @@ pub name-read : (c : Cursor) (l w : List ℕ) → w ≡ take name_most l → nam
 unfolding name_at is_name name_length is_found place_found
 name-read c l w e = rw (e, name-moves c.at (take name_most l)) (by_cases (name_end 0 (take name_most l)))
   where
-    by_cases : (f : Option ℕ) → name_to c.line (further c.at f) ≡ cond (is_found f) (Name (moved c (place_found f))) NoName
+    by_cases : (f : Option ℕ) → name_to c.line (further c.at f) ≡ cond (is_found f) (Some (moved c (place_found f))) None
     by_cases (Some n) = refl
     by_cases None = refl
 
--- the 24 bytes from i on
-pub window-short : (s : List ℕ) (i : ℕ) → length s - i ≤ name_most → drop i s ≡ take name_most (drop i s)
-window-short s i h = sym (take_all name_most (drop i s) (rw (length-drop i s) h))
-
-pub window-long : (s : List ℕ) (i n : ℕ) → drop i (take (i + n) s) ≡ take n (drop i s)
-window-long s zero n = rw (zero-add n)
-window-long [] (suc i) n = rw (take-nil (suc i + n), take-nil n)
-window-long (b ∷ s) (suc i) n = rw (suc-add i n) (window-long s i n)
-
--- at the end of the bytes there is no name
-pub name-nothing : (c : Cursor) (s : List ℕ) → length s ≤ c.at → NoName ≡ name_at c (drop c.at s)
-unfolding name_at is_name name_end bare_end run is_found
-name-nothing c s h = rw (drop_of_length-le s h)
+-- the 24 bytes from i on, or all that are left
+pub window : (s : List ℕ) (i end : ℕ) → end ≡ min (i + name_most) (length s) → drop i (take end s) ≡ take name_most (drop i s)
+window s i end e =
+    ⊎_elim
+    (λ (h : i + name_most < length s). let k : end ≡ i + name_most = omega arith in rw (k, drop-take i name_most s))
+    (λ (h : length s ≤ i + name_most).
+    let k : end ≡ length s = omega arith in
+    let n : length (drop i s) ≤ name_most = omega (arith, length-drop i s) in
+    rw (k, take_all (length s) s (omega arith), take_all name_most (drop i s) n))
+    (lt-or-le (i + name_most) (length s))
 
 -- what a name that was read says, and what none says
 pub record NameWas (c : Cursor) (l : List ℕ) (d : Cursor) : Type 0 where
   pub name : is_name l ≡ true
   pub past : d ≡ moved c (name_length l)
 
-pub name-was : (c d : Cursor) (l : List ℕ) → Name d ≡ name_at c l → NameWas c l d
+pub name-was : (c d : Cursor) (l : List ℕ) → Some d ≡ name_at c l → NameWas c l d
 unfolding name_at
 name-was c d l = by-test (is_name l) refl
   where
-    by-test : (t : Bool) → is_name l ≡ t → Name d ≡ cond t (Name (moved c (name_length l))) NoName → NameWas c l d
+    by-test : (t : Bool) → is_name l ≡ t → Some d ≡ cond t (Some (moved c (name_length l))) None → NameWas c l d
     by-test true n e = record { name = n; past = cc }
     by-test false n e = absurd (zero-not-one cc)
 
-pub name-was-none : (c : Cursor) (l : List ℕ) → NoName ≡ name_at c l → is_name l ≡ false
+pub name-was-none : (c : Cursor) (l : List ℕ) → None ≡ name_at c l → is_name l ≡ false
 unfolding name_at
 name-was-none c l = by-test (is_name l) refl
   where
-    by-test : (t : Bool) → is_name l ≡ t → NoName ≡ cond t (Name (moved c (name_length l))) NoName → is_name l ≡ false
+    by-test : (t : Bool) → is_name l ≡ t → None ≡ cond t (Some (moved c (name_length l))) None → is_name l ≡ false
     by-test true n e = absurd (zero-not-one cc)
     by-test false n e = n

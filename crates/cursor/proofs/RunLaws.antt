@@ -14,9 +14,6 @@ use Rattle.cursor.specs.Bytes.{run}
 pub first-left : (s : List ℕ) (i : ℕ) → get_or (drop i s) 0 0 ≡ get_or s i 0
 first-left s i = rw (get_or-drop i s 0 0, add-zero)
 
-pub second-left : (s : List ℕ) (i : ℕ) → get_or (drop i s) 1 0 ≡ get_or s (i + 1) 0
-second-left s i = get_or-drop i s 1 0
-
 module _ {A : Type 0} (ok : List A → Bool) (d : A) where
   pub run_more : (s : List A) (i : ℕ) → i < length s → ok (drop i s) ≡ true → run ok (drop i s) ≡ suc (run ok (drop (i + 1) s))
   unfolding run

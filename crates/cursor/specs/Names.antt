@@ -1,11 +1,13 @@
 -- Names by their places in the text. Definitions only.
-use Rattle.std.specs.Prelude.{List, [], ◌∷◌, ℕ, zero, suc, get_or, take, drop}
+use Rattle.std.specs.Prelude.{List, [], ◌∷◌, ℕ, zero, suc, take, drop}
+use Rattle.cursor.specs.declared.Place.{Place}
 
--- the bytes of the name whose start and length come next
-unfoldable pub name_at_place : List ℕ → List ℕ → List ℕ
-name_at_place s places = take (get_or places 1 0) (drop (get_or places 0 0) s)
+-- the bytes of the name that stands there
+unfoldable pub name_at_place : List ℕ → Place → List ℕ
+name_at_place s p = take p.size (drop p.start s)
 
--- the first n names
-unfoldable pub names_at : List ℕ → ℕ → List ℕ → List (List ℕ)
+-- the names at the first n places
+unfoldable pub names_at : List ℕ → ℕ → List Place → List (List ℕ)
 names_at s zero places = []
-names_at s (suc n) places = name_at_place s places ∷ names_at s n (drop 2 places)
+names_at s (suc n) [] = [] ∷ names_at s n []
+names_at s (suc n) (p ∷ places) = name_at_place s p ∷ names_at s n places

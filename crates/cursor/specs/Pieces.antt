@@ -4,10 +4,8 @@ use Rattle.cursor.specs.declared.Class.TheVariants.{Digit, Bare}
 use Rattle.cursor.specs.declared.Cursor.{Cursor}
 use Rattle.cursor.specs.declared.Column.{Column}
 use Rattle.cursor.specs.declared.Column.TheVariants.{Numbers, Names}
-use Rattle.cursor.specs.declared.CellRead.{CellRead}
-use Rattle.cursor.specs.declared.CellRead.TheVariants.{NumberCell, NameCell, NoCell}
-use Rattle.cursor.specs.declared.NameRead.{NameRead}
-use Rattle.cursor.specs.declared.NameRead.TheVariants.{Name, NoName}
+use Rattle.cursor.specs.declared.Cell.{Cell}
+use Rattle.cursor.specs.declared.Cell.TheVariants.{Number, Name}
 use Rattle.cursor.specs.Bytes.{plain_byte, passes, run}
 
 -- the cursor n bytes on, in the same line
@@ -95,22 +93,30 @@ cell_length Names l = name_length l
 unfoldable pub after_cell : Column → List ℕ → List ℕ
 after_cell column l = drop (1 + cell_length column (drop 1 l)) l
 
+-- a cell that was read, with the cursor past it
+abbrev pub cell_read : Cell → Cursor → Option (Cell × Cursor)
+cell_read x past = Some (x, past)
+
+-- the place of a name
+abbrev pub name_cell : ℕ → ℕ → Cell
+name_cell start size = Name (record { start = start; size = size })
+
 -- what the readers of a number, of a name, of a cell and of a cell behind its comma answer at a cursor
-unfoldable pub number_at : Cursor → List ℕ → CellRead
-number_at c l = cond (is_number l) (NumberCell (number_of l) (moved c (digits l))) NoCell
+unfoldable pub number_at : Cursor → List ℕ → Option (Cell × Cursor)
+number_at c l = cond (is_number l) (cell_read (Number (number_of l)) (moved c (digits l))) None
 
-unfoldable pub name_at : Cursor → List ℕ → NameRead
-name_at c l = cond (is_name l) (Name (moved c (name_length l))) NoName
+unfoldable pub name_at : Cursor → List ℕ → Option Cursor
+name_at c l = cond (is_name l) (Some (moved c (name_length l))) None
 
-unfoldable pub cell_at : Column → Cursor → List ℕ → CellRead
+unfoldable pub cell_at : Column → Cursor → List ℕ → Option (Cell × Cursor)
 cell_at Numbers c l = number_at c l
-cell_at Names c l = cond (is_name l) (NameCell c.at (name_length l) (moved c (name_length l))) NoCell
+cell_at Names c l = cond (is_name l) (cell_read (name_cell c.at (name_length l)) (moved c (name_length l))) None
 
-unfoldable pub field_at : Bool → Column → Cursor → List ℕ → CellRead
+unfoldable pub field_at : Bool → Column → Cursor → List ℕ → Option (Cell × Cursor)
 field_at first column c l =
-    cond first (cell_at column c l) (cond (is_comma l) (cell_at column (moved c 1) (drop 1 l)) NoCell)
+    cond first (cell_at column c l) (cond (is_comma l) (cell_at column (moved c 1) (drop 1 l)) None)
 
 -- a name that ends at a place that was found, in a line
-abbrev pub name_to : ℕ → Option ℕ → NameRead
-name_to line (Some i) = Name (record { at = i; line = line })
-name_to line None = NoName
+abbrev pub name_to : ℕ → Option ℕ → Option Cursor
+name_to line (Some i) = Some (record { at = i; line = line })
+name_to line None = None

@@ -1,60 +1,47 @@
 // The bytes that numbers, names and lines are made of [01 §6].
-ghost use Rattle.std.specs.Prelude.{◌≡◌, ◌<◌, length, drop};
+ghost use Rattle.std.specs.Prelude.{◌≡◌};
 ghost use Rattle.cursor.specs.Bytes.{digit_byte, plain_byte, bare_byte, crlf, passes};
 
 use super::Class;
 
+#[tactic(auto, using(crate::proofs::ByteLaws::left), unfolding(crate::specs::Bytes::digit_byte))]
 fn digit_byte(b: u8) -> bool
     ensures { result ≡ digit_byte b }
 {
-    if b < 48 {
-        return false;
-    }
-    b <= 57
+    matches!(b, b'0'..=b'9')
 }
 
+#[tactic(auto, using(crate::proofs::ByteLaws::left), unfolding(crate::specs::Bytes::plain_byte))]
 pub(crate) fn plain_byte(b: u8) -> bool
     ensures { result ≡ plain_byte b }
 {
-    if b < 32 {
-        return false;
-    }
-    if 126 < b {
-        return false;
-    }
-    b != 34
+    matches!(b, b' '..=b'~') && b != b'"'
 }
 
+#[tactic(auto, using(crate::proofs::ByteLaws::left), unfolding(crate::specs::Bytes::bare_byte))]
 fn bare_byte(b: u8) -> bool
     ensures { result ≡ bare_byte b }
 {
-    if b == 44 {
-        return false;
-    }
-    plain_byte(b)
+    b != b',' && plain_byte(b)
 }
 
-fn crlf_at(s: &[u8], i: usize) -> bool
-    requires { i < length s.now }
-    ensures { result ≡ crlf (drop i s.now) }
+#[tactic(auto, using(crate::proofs::ByteLaws::left), unfolding(crate::specs::Bytes::crlf))]
+fn crlf(left: &[u8]) -> bool
+    ensures { result ≡ crlf left.now }
 {
-    if s[i] != 13 {
-        return false;
-    }
-    let next = i + 1;
-    if s.len() <= next {
-        return false;
-    }
-    s[next] == 10
+    matches!(left, [b'\r', b'\n', ..])
 }
 
-pub(crate) fn passes_at(class: Class, s: &[u8], i: usize) -> bool
-    requires { i < length s.now }
-    ensures { result ≡ passes class (drop i s.now) }
-{
-    match class {
-        Class::Digit => digit_byte(s[i]),
-        Class::Bare => bare_byte(s[i]),
-        Class::InLine => !crlf_at(s, i),
+impl Class {
+    // The first of the bytes that are left passes as one of the class.
+    #[tactic(auto, using(crate::proofs::ByteLaws::left), unfolding(crate::specs::Bytes::passes))]
+    pub(crate) fn passes(self, left: &[u8]) -> bool
+        ensures { result ≡ passes self left.now }
+    {
+        match self {
+            Class::Digit => matches!(left, [b, ..] if digit_byte(*b)),
+            Class::Bare => matches!(left, [b, ..] if bare_byte(*b)),
+            Class::InLine => !crlf(left),
+        }
     }
 }

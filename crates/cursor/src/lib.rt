@@ -2,10 +2,10 @@
 #![tactic(auto)]
 
 mod alphabet;
-mod cell;
+mod cells;
 mod pieces;
 
-// The bytes that a run is made of.
+// The bytes that a run is made of: a type and no closure, since the definitions `digits` and `line_length` are runs of a class.
 #[derive(Clone, Copy)]
 pub enum Class {
     Digit,
@@ -27,17 +27,16 @@ pub enum Column {
     Names,
 }
 
-// A cell with the cursor past it: a number's value, or a name's start and length.
+// Where a name stands in the text, its quotes with it.
 #[derive(Clone, Copy)]
-pub enum CellRead {
-    NumberCell(u64, Cursor),
-    NameCell(usize, usize, Cursor),
-    NoCell,
+pub struct Place {
+    pub start: usize,
+    pub size: usize,
 }
 
-// The cursor past a name.
+// A cell: a number's value, or a name's place.
 #[derive(Clone, Copy)]
-pub(crate) enum NameRead {
-    Name(Cursor),
-    NoName,
+pub enum Cell {
+    Number(u64),
+    Name(Place),
 }

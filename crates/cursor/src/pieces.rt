@@ -1,147 +1,116 @@
 // A cursor's way past the pieces of a line: runs, numbers, names [01 §6].
-ghost use Rattle.std.specs.Prelude.{◌≡◌, ◌-◌, ◌<◌, drop, take};
+ghost use Rattle.std.specs.Prelude.{◌≡◌, ◌+◌, ◌<◌, ◌^◌, drop, length};
 ghost use Rattle.cursor.specs.Bytes.{passes, run};
 ghost use Rattle.cursor.specs.Digits.{Digits};
 ghost use Rattle.cursor.specs.Pieces.{moved, next_line, decimal, number_at, name_at, name_to, name_end, plain_part, quote_part};
 
-use super::alphabet::{passes_at, plain_byte};
-use super::{CellRead, Class, Cursor, NameRead};
+use super::alphabet::plain_byte;
+use super::{Cell, Class, Cursor};
 
 // A name has at most so many bytes, quotes counted.
 const NAME_MOST: usize = 24;
 
-// The decimal value of the digits from `at` up to `end`.
-pub(crate) fn value(s: &[u8], at: usize, end: usize) -> u64
-    requires { Digits s.now at end }
-    ensures { result ≡ decimal 0 (take (end - at) (drop at s.now)) }
+// The decimal value of digits.
+pub(crate) fn value(digits: &[u8]) -> u64
+    requires { Digits digits.now }
+    ensures { result ≡ decimal 0 digits.now }
 {
-    let mut v: u64 = 0;
-    let mut i = at;
-    while i < end {
-        v = v * 10 + (s[i] as u64 - 48);
-        i += 1;
+    let mut v = 0;
+    for b in digits {
+        v = v * 10 + u64::from(*b - b'0');
     }
     v
 }
 
 impl Cursor {
+    // So many bytes on, in the same line.
+    pub(crate) fn ahead(self, n: usize) -> Cursor
+        requires { self.at + n < 2 ^ 64 }
+        ensures { result ≡ moved self n }
+    {
+        Cursor {
+            at: self.at + n,
+            line: self.line,
+        }
+    }
+
     // Past the bytes of a class that come next.
     pub fn skip(self, class: Class, s: &[u8]) -> Cursor
         ensures { result ≡ moved self (run (passes class) (drop self.at s.now)) }
     {
-        let mut i = self.at;
-        while i < s.len() {
-            if !passes_at(class, s, i) {
-                return Cursor {
-                    at: i,
-                    line: self.line,
-                };
+        let mut past = self;
+        for i in self.at..s.len() {
+            if !class.passes(&s[i..]) {
+                break;
             }
-            i += 1;
+            past = past.ahead(1);
         }
-        Cursor {
-            at: i,
-            line: self.line,
-        }
+        past
     }
 
-    // Past a number: one to nine digits, no leading zero but 0 itself.
-    pub(crate) fn number(self, s: &[u8]) -> CellRead
+    // A number, with the cursor past it: one to nine digits, no leading zero but 0 itself.
+    pub(crate) fn number(self, s: &[u8]) -> Option<(Cell, Cursor)>
         ensures { result ≡ number_at self (drop self.at s.now) }
     {
-        let at = self.at;
         let past = self.skip(Class::Digit, s);
-        let end = past.at;
-        if end == at {
-            return CellRead::NoCell;
+        if past.at == self.at {
+            return None;
         }
-        if 9 < end - at {
-            return CellRead::NoCell;
+        let digits = &s[self.at..past.at];
+        if 9 < digits.len() {
+            return None;
         }
-        if 1 < end - at {
-            if s[at] == 48 {
-                return CellRead::NoCell;
-            }
+        if 1 < digits.len() && digits[0] == b'0' {
+            return None;
         }
-        CellRead::NumberCell(value(s, at, end), past)
+        Some((Cell::Number(value(digits)), past))
     }
 
     // In a quoted name: plain bytes up to the next quote.
+    #[tactic(auto, using(crate::proofs::ByteLaws::left), unfolding(crate::specs::Pieces::plain_part))]
     #[cycle(plain_quote)]
-    pub(crate) fn plain(self, s: &[u8]) -> NameRead
+    pub(crate) fn plain(self, s: &[u8]) -> Option<Cursor>
         ensures { result ≡ name_to self.line (plain_part self.at (drop self.at s.now)) }
     {
-        let at = self.at;
-        if s.len() <= at {
-            return NameRead::NoName;
+        match s.get(self.at)? {
+            b'"' => self.ahead(1).quote(s),
+            b if plain_byte(*b) => self.ahead(1).plain(s),
+            _ => None,
         }
-        let next = Cursor {
-            at: at + 1,
-            line: self.line,
-        };
-        let b = s[at];
-        if b == 34 {
-            return next.quote(s);
-        }
-        if plain_byte(b) {
-            return next.plain(s);
-        }
-        NameRead::NoName
     }
 
     // After a quote: a second one doubles it, otherwise it closes the name.
+    #[tactic(auto, using(crate::proofs::ByteLaws::left), unfolding(crate::specs::Pieces::quote_part))]
     #[cycle(plain_quote)]
-    pub(crate) fn quote(self, s: &[u8]) -> NameRead
+    pub(crate) fn quote(self, s: &[u8]) -> Option<Cursor>
         ensures { result ≡ name_to self.line (quote_part self.at (drop self.at s.now)) }
     {
-        let at = self.at;
-        if s.len() <= at {
-            return NameRead::Name(self);
+        match s.get(self.at) {
+            Some(b'"') => self.ahead(1).plain(s),
+            _ => Some(self),
         }
-        if s[at] == 34 {
-            let next = Cursor {
-                at: at + 1,
-                line: self.line,
-            };
-            return next.plain(s);
-        }
-        NameRead::Name(self)
     }
 
     // Past a name that ends within `w`.
-    pub(crate) fn name_within(self, w: &[u8]) -> NameRead
+    #[tactic(auto, using(crate::proofs::ByteLaws::left), unfolding(crate::specs::Pieces::name_end, crate::specs::Pieces::bare_end))]
+    pub(crate) fn name_within(self, w: &[u8]) -> Option<Cursor>
         ensures { result ≡ name_to self.line (name_end self.at (drop self.at w.now)) }
     {
-        let at = self.at;
-        if w.len() <= at {
-            return NameRead::NoName;
-        }
-        if w[at] == 34 {
-            let next = Cursor {
-                at: at + 1,
-                line: self.line,
-            };
-            return next.plain(w);
+        if let Some(b'"') = w.get(self.at) {
+            return self.ahead(1).plain(w);
         }
         let past = self.skip(Class::Bare, w);
-        if past.at == at {
-            return NameRead::NoName;
+        if past.at == self.at {
+            return None;
         }
-        NameRead::Name(past)
+        Some(past)
     }
 
     // Past a name of 1 to 24 bytes, quoted or not: no more than 24 bytes are looked at.
-    pub(crate) fn name(self, s: &[u8]) -> NameRead
+    pub(crate) fn name(self, s: &[u8]) -> Option<Cursor>
         ensures { result ≡ name_at self (drop self.at s.now) }
     {
-        let at = self.at;
-        if s.len() <= at {
-            return NameRead::NoName;
-        }
-        if s.len() - at <= NAME_MOST {
-            return self.name_within(s);
-        }
-        let end = at + NAME_MOST;
+        let end = self.at.saturating_add(NAME_MOST).min(s.len());
         self.name_within(&s[..end])
     }
 

@@ -8,6 +8,9 @@
 --     rows-unique         a text of the layout has one list of rows
 --     list-sound, list-complete     the reading accepts exactly the texts of the layout, and its rows are the layout's
 --     header-spelt        the header, letter by letter
+use Rattle.text.specs.Text.{bad_line}
+use Rattle.text.specs.Text.{Reading}
+use Rattle.std.proofs.Common.{Ok}
 use mathlib.Core.Path.{◌≡◌, refl}
 use mathlib.Core.Logic.{◌↔◌}
 use mathlib.Core.List.{List, ◌∷◌, ◌++◌}
@@ -16,8 +19,6 @@ use native.Mathlib.Omega.{arith}
 use lib.ListN.{length}
 use Rattle.layout.specs.Counts.{field_count}
 use Rattle.cursor.specs.Spelt.{spelt}
-use Rattle.text.specs.declared.Reading.{Reading}
-use Rattle.text.specs.declared.Reading.TheVariants.{BadLine, Rows}
 use Rattle.text.specs.Grammar.{Row}
 use Rattle.text.specs.Gets.{NoCrlf, HeaderFirst, FirstBad, TextGets}
 use Rattle.text.specs.Text.{text_most, lines}
@@ -43,19 +44,19 @@ unfolding header
 header-one-line = no-cr-no-crlf header (all-test no_cr header refl)
 
 module _ (s : List ℕ) where
-  pub line-0-exactly : (reading s ≡ BadLine 0) ↔ (65536 < length s)
+  pub line-0-exactly : (reading s ≡ bad_line 0) ↔ (65536 < length s)
   line-0-exactly = texts.too-long-exactly header list_columns 1 s header-one-line (omega arith)
 
-  pub line-1-exactly : (reading s ≡ BadLine 1) ↔ ((length s ≤ 65536) × (HeaderFirst header s → ⊥))
+  pub line-1-exactly : (reading s ≡ bad_line 1) ↔ ((length s ≤ 65536) × (HeaderFirst header s → ⊥))
   line-1-exactly = texts.no-header-exactly header list_columns 1 s header-one-line (omega arith)
 
   pub bad-line-exactly :
       (j : ℕ) →
-      (reading s ≡ BadLine (2 + j)) ↔
+      (reading s ≡ bad_line (2 + j)) ↔
       ((length s ≤ 65536) × ((rest : List ℕ) × ((s ≡ header ++ 13 ∷ 10 ∷ rest) × FirstBad list_columns (lines rest) j)))
   bad-line-exactly j = texts.bad-line-exactly header list_columns 1 s header-one-line (omega arith) j
 
-  pub rows-exactly : (n : ℕ) → (reading s ≡ Rows n) ↔ ((length s ≤ 65536) × ((rs : List Row) × (ListText s rs × (length rs ≡ n))))
+  pub rows-exactly : (n : ℕ) → (reading s ≡ Ok n) ↔ ((length s ≤ 65536) × ((rs : List Row) × (ListText s rs × (length rs ≡ n))))
   rows-exactly n = texts.rows-exactly header list_columns 1 s header-one-line n
 
   pub gets-exactly : (r : Reading) → (reading s ≡ r) ↔ TextGets header list_columns 1 s r
@@ -65,9 +66,9 @@ module _ (s : List ℕ) where
   rows-unique rs rs' t t' = texts.rows-unique header list_columns header-one-line t t'
 
   -- Whatever the reading accepts is a text of a list, with as many rows as it says.
-  pub list-sound : (n : ℕ) → reading s ≡ Rows n → ListText s (rows_of s) × (length (rows_of s) ≡ n)
+  pub list-sound : (n : ℕ) → reading s ≡ Ok n → ListText s (rows_of s) × (length (rows_of s) ≡ n)
   list-sound n e = grammar.text-sound header list_columns 1 s n e
 
   -- Every text of a list that is not too long is accepted, and its rows are those that it says.
-  pub list-complete : (rs : List Row) → length s ≤ text_most → ListText s rs → (reading s ≡ Rows (length rs)) × (rows_of s ≡ rs)
+  pub list-complete : (rs : List Row) → length s ≤ text_most → ListText s rs → (reading s ≡ Ok (length rs)) × (rows_of s ≡ rs)
   list-complete rs k h = grammar.text-complete header list_columns header-one-line 1 s rs k h

@@ -1,10 +1,11 @@
 -- In the text of a list that was read whole the numbers fill their rows, and each row's name stands where its place says.
+use Rattle.std.proofs.Common.{Ok, get_or}
+use Rattle.cursor.specs.declared.Place.{Place}
 use mathlib.Core.Path.{◌≡◌, refl, ap, subst, ◌∙◌}
 use mathlib.Core.List.{List, [], ◌∷◌}
 use Prim.Native.Nat.{ℕ, ◌+◌, ◌*◌, ◌<◌}
 use native.Mathlib.Omega.{arith}
 use lib.ListN.{length, length-append}
-use Rattle.text.specs.declared.Reading.TheVariants.{Rows}
 use Rattle.text.specs.Line.{places_of}
 use Rattle.text.specs.Grammar.{rows_as, all_names}
 use Rattle.cursor.specs.Names.{names_at}
@@ -19,7 +20,7 @@ use Rattle.layout.specs.Counts.{field_count}
 use Rattle.list.specs.List.{list_layout, list_columns, reading, rows_of, rows_read, row_numbers, row_places}
 
 -- a line has one place
-places-length : (i : ℕ) (ls : List (List ℕ)) → length (all_places list_columns i ls) ≡ length ls * 2
+places-length : (i : ℕ) (ls : List (List ℕ)) → length (all_places list_columns i ls) ≡ length ls
 unfolding all_places
 places-length i [] = refl
 places-length i (l ∷ ls) =
@@ -30,11 +31,11 @@ places-length i (l ∷ ls) =
 pub record RowsStand (s : List ℕ) (n : ℕ) : Type 0 where
   pub read : rows_read s ≡ n
   pub numbers-long : length (row_numbers s) ≡ n * field_count
-  pub places-long : length (row_places s) ≡ n * 2
-  pub inside : (k : ℕ) → k < n → PlaceInside (length s) (row_places s) k
+  pub places-long : length (row_places s) ≡ n
+  pub inside : (k : ℕ) → k < n → (d : Place) → PlaceInside (length s) (get_or (row_places s) k d)
   pub names : names_at s n (row_places s) ≡ all_names (rows_of s)
 
-pub rows-stand : (s : List ℕ) (n : ℕ) → reading s ≡ Rows n → RowsStand s n
+pub rows-stand : (s : List ℕ) (n : ℕ) → reading s ≡ Ok n → RowsStand s n
 unfolding numbers_as places_as rows_as row_lines after_line
 rows-stand s n e =
     let a = accepted header list_columns 1 s n e in
@@ -47,7 +48,7 @@ rows-stand s n e =
     record {
       read = rows-read header list_columns 1 s n e;
       numbers-long = all-numbers-long list_layout (row_lines s) ∙ ap (λ (k : ℕ). k * field_count) a.count;
-      places-long = long ∙ ap (λ (k : ℕ). k * 2) a.count;
-      inside = λ k h. inside-at (length s) (row_places s) k t.inside (omega (arith, a.count));
+      places-long = long ∙ a.count;
+      inside = λ k h d. inside-at (length s) (row_places s) k d t.inside (omega (arith, long, a.count));
       names = rw (← count) t.are;
     }

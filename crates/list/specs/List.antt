@@ -1,11 +1,11 @@
 -- The text of a list: the fields of section 2 with the name behind the first [01 §6]. Definitions only.
+use Rattle.cursor.specs.declared.Place.{Place}
 use Rattle.std.specs.Prelude.{◌≡◌, true, List, ℕ, ◌-◌, ◌/◌, length}
 use Rattle.cursor.specs.declared.Column.{Column}
 use Rattle.text.specs.declared.Columns.{Columns}
-use Rattle.text.specs.declared.Reading.{Reading}
 use Rattle.text.specs.Line.{columns_of}
 use Rattle.text.specs.Grammar.{Row, Text, rows_as}
-use Rattle.text.specs.Text.{read_as, rows_read_as, numbers_as, places_as, blocks_over}
+use Rattle.text.specs.Text.{Reading, read_as, rows_read_as, numbers_as, places_as, blocks_over}
 use Rattle.layout.specs.Counts.{field_count}
 use Rattle.list.specs.Header.{header}
 
@@ -33,11 +33,11 @@ rows_read s = rows_read_as header list_columns s
 abbrev pub row_numbers : List ℕ → List ℕ
 row_numbers s = numbers_as list_columns s
 
-abbrev pub row_places : List ℕ → List ℕ
+abbrev pub row_places : List ℕ → List Place
 row_places s = places_as list_columns 0 s
 
 -- What reading leaves: the answer, and in the buffers the rows before the first bad line, as far as there is room.
-pub record ListTaken (s list names list' names' : List ℕ) (r : Reading) : Type 0 where
+pub record ListTaken (s list : List ℕ) (names : List Place) (list' : List ℕ) (names' : List Place) (r : Reading) : Type 0 where
   pub answer : r ≡ reading s
   pub numbers : list' ≡ blocks_over (length list / field_count) field_count (rows_read s) (row_numbers s) list
-  pub places : names' ≡ blocks_over (length names / 2) 2 (rows_read s) (row_places s) names
+  pub places : names' ≡ blocks_over (length names) 1 (rows_read s) (row_places s) names

@@ -4,12 +4,12 @@
 ghost use Rattle.std.specs.Prelude.{◌≡◌};
 ghost use Rattle.list.specs.List.{ListTaken};
 
-use cursor::Cursor;
+use cursor::{Cursor, Place};
 use layout::FIELDS;
-use text::{Columns, Reading, read_text};
+use text::{BadLine, Columns, read_text};
 
-// The whole text: at most 65,536 bytes, the header, then a row in each line.
-pub fn read_list(text: &[u8], list: &mut [u64], names: &mut [u64]) -> Reading
+// The whole text: at most 65,536 bytes, the header, then a row in each line; how many rows, or the first bad line.
+pub fn read_list(text: &[u8], list: &mut [u64], names: &mut [Place]) -> Result<usize, BadLine>
     ensures { ListTaken text.now list.old names.old list.new names.new result }
 {
     let columns = Columns {

@@ -1,25 +1,25 @@
 -- What is printed in the end: a refusal, a card, or nothing.
+use Rattle.cursor.specs.declared.Place.{Place}
+use Rattle.std.specs.List.{list_all}
+use Rattle.print.proofs.CardLaws.{name-short}
+use Rattle.fold.proofs.BoolLaws.{and_left, and_right}
 use mathlib.Core.Path.{◌≡◌, refl, sym, ap, ◌∙◌}
 use mathlib.Core.Bool.{true, false}
-use mathlib.Core.List.{List, [], ◌++◌}
+use mathlib.Core.List.{List, [], ◌++◌, ◌∷◌}
 use Prim.Native.Nat.{ℕ, zero, suc, ◌+◌, ◌*◌, ◌≤◌, ◌<◌}
-use native.Mathlib.Nat.{add_assoc}
-use native.Mathlib.Numerals.{one-add}
 use native.Mathlib.Omega.{arith}
-use lib.ListN.{length, take, drop, get_or, length-append}
-use lib.Seq.{drop-drop, take-append_seam}
+use lib.ListN.{length, take, drop, length-append}
+use lib.Seq.{take-append_seam, take-nil}
 use borrow.Author.Tests.{le-leb, lt-leb}
 use Rattle.layout.specs.Counts.{column_count}
-use Rattle.fold.proofs.FoldLaws.{every-at}
 use Rattle.answers.specs.Answer.{number_count}
-use Rattle.cursor.specs.Pieces.{name_most}
 use Rattle.cursor.specs.Names.{name_at_place, names_at}
 use Rattle.print.specs.Write.{written, Wrote}
 use Rattle.print.specs.Card.{header_size, line_most, refusal_most, card_header, refusal_header}
 use Rattle.print.specs.Card.{numbers_text, line_text, rows_text, card_text, refusal_text}
 use Rattle.print.specs.Card.{place_right, printable, Printed, card_printed, refusal_printed}
 use Rattle.print.proofs.FieldsLaws.{numbers-short}
-use Rattle.print.proofs.PlaceLaws.{place-was, printable-room}
+use Rattle.print.proofs.PlaceLaws.{printable-room}
 use Rattle.print.proofs.WriteLaws.{written_none, wrote_then}
 use Rattle.print.proofs.CardLaws.{line-short}
 
@@ -66,42 +66,52 @@ refusal-all numbers out o₁ o₂ r₁ r₂ h same w₁ w₂ =
 
 -- the card: nothing, or its header and its rows
 pub card-none :
-    (s places card : List ℕ) (n : ℕ) (out : List ℕ) → printable (length s) places (length card) n (length out) ≡ false →
+    (s : List ℕ) (places : List Place) (card : List ℕ) (n : ℕ) (out : List ℕ) → printable (length s) places (length card) n (length out) ≡ false →
     Printed out (card_printed s places card n (length out)) out 0
 unfolding card_printed
 card-none s places card n out h = rw h (nothing-printed out)
 
 rows_short :
-    (s places card : List ℕ) (n i : ℕ) → ((j : ℕ) → j < n → get_or places ((i + j) * 2 + 1) 0 ≤ name_most) →
-    length (rows_text (names_at s n (drop (i * 2) places)) card) ≤ n * line_most
+    (s : List ℕ) (n : ℕ) (places : List Place) (card : List ℕ) → list_all (place_right (length s)) (take n places) ≡ true →
+    length (rows_text (names_at s n places) card) ≤ n * line_most
 unfolding rows_text names_at
-rows_short s places card zero i h = omega arith
-rows_short s places card (suc n) i h =
-    let e : (i + 0) * 2 + 1 ≡ i * 2 + 1 = omega arith in
-    let k = line-short s places card i (rw e at (h 0 (omega arith))) in
-    let a : i * 2 + 2 ≡ (i + 1) * 2 = omega arith in
-    let r = rows_short s places (drop column_count card) n (i + 1) (λ j l. rw (add_assoc i 1 j, one-add j) (h (suc j) (omega arith))) in
-    let line = line_text (name_at_place s (drop (i * 2) places)) card in
-    let rest = rows_text (names_at s n (drop ((i + 1) * 2) places)) (drop column_count card) in
-    rw (drop-drop 2 (i * 2) places, a) (omega (arith, k, r, length-append line rest))
+rows_short s zero places card h = omega arith
+rows_short s (suc n) [] card h =
+    let rest = rows_text (names_at s n []) (drop column_count card) in
+    omega (
+      arith,
+      line-short [] card (omega arith),
+      rows_short s n [] (drop column_count card) (rw (take-nil n)),
+      length-append (line_text [] card) rest,
+    )
+rows_short s (suc n) (p ∷ ps) card h =
+    let name = name_at_place s p in
+    let rest = rows_text (names_at s n ps) (drop column_count card) in
+    let a = and_left (place_right (length s) p) (list_all (place_right (length s)) (take n ps)) h in
+    let b = and_right (place_right (length s) p) (list_all (place_right (length s)) (take n ps)) h in
+    omega (
+      arith,
+      line-short name card (name-short (length s) s p a),
+      rows_short s n ps (drop column_count card) b,
+      length-append (line_text name card) rest,
+    )
 
 pub card-short :
-    (s places card : List ℕ) (n : ℕ) → ((j : ℕ) → j < n → get_or places (j * 2 + 1) 0 ≤ name_most) →
+    (s : List ℕ) (places : List Place) (card : List ℕ) (n : ℕ) → list_all (place_right (length s)) (take n places) ≡ true →
     length (card_text (names_at s n places) card) ≤ header_size + n * line_most
 unfolding card_text
 card-short s places card n h =
-    let k = rows_short s places card n 0 (λ j l. let e : (0 + j) * 2 + 1 ≡ j * 2 + 1 = omega arith in rw e (h j l)) in
-    omega (arith, k, length-append card_header (rows_text (names_at s n places) card))
+    omega (arith, rows_short s n places card h, length-append card_header (rows_text (names_at s n places) card))
 
 pub card-all :
-    (s places card : List ℕ) (n : ℕ) (out o₁ o₂ : List ℕ) (r₁ r₂ : ℕ) →
+    (s : List ℕ) (places : List Place) (card : List ℕ) (n : ℕ) (out o₁ o₂ : List ℕ) (r₁ r₂ : ℕ) →
     printable (length s) places (length card) n (length out) ≡ true → length o₂ ≡ length out →
     Wrote out 0 card_header o₁ r₁ → Wrote o₁ r₁ (rows_text (names_at s n places) card) o₂ r₂ → Printed out
     (card_printed s places card n (length out)) o₂ r₂
 unfolding card_printed card_text
 card-all s places card n out o₁ o₂ r₁ r₂ h same w₁ w₂ =
     let room = printable-room (length s) places (length card) n (length out) h in
-    let k = card-short s places card n (λ j l. (place-was (length s) places j (every-at (place_right (length s) places) n j room.rows.right l)).short) in
+    let k = card-short s places card n room.rows.right in
     let f : List ℕ = rows_text (names_at s n places) card in
     let v = wrote_then out 0 card_header o₁ r₁ f o₂ r₂ (omega (arith, k, room.rows.out-room, length-append card_header f)) w₁ w₂ in
     rw h (wrote-printed out (card_header ++ f) o₂ r₂ (omega (arith, k, room.rows.out-room)) same v)

@@ -2,8 +2,9 @@
 use Rattle.std.specs.Prelude.{◌≡◌, Bool, true, cond, ◌&&◌, List, [], ◌∷◌, ◌++◌, ℕ, zero, suc, ◌+◌, ◌-◌, ◌*◌, ◌/◌, ◌≤◌, leb, length, get_or, take, drop}
 use Rattle.layout.specs.Counts.{column_count}
 use Rattle.answers.specs.Answer.{number_count}
-use Rattle.fold.specs.Fold.{every}
+use Rattle.std.specs.List.{list_all}
 use Rattle.cursor.specs.Pieces.{name_most}
+use Rattle.cursor.specs.declared.Place.{Place}
 use Rattle.cursor.specs.Names.{names_at}
 use Rattle.print.specs.Write.{digits_most, number_text, written}
 
@@ -69,34 +70,31 @@ numbers_line_most k = digits_most + (k - 1) * field_most + length line_end
 abbrev pub refusal_most : ℕ
 refusal_most = length refusal_header + numbers_line_most number_count
 
--- name i has at most 24 bytes and stands inside a text of so many bytes
-unfoldable pub place_right : ℕ → List ℕ → ℕ → Bool
-place_right size places i =
-    leb (get_or places (i * 2 + 1) 0) name_most && leb (get_or places (i * 2) 0) size &&
-    leb (get_or places (i * 2 + 1) 0) (size - get_or places (i * 2) 0)
+-- a name has at most 24 bytes and stands inside a text of so many bytes
+unfoldable pub place_right : ℕ → Place → Bool
+place_right size p = leb p.size name_most && leb p.start size && leb p.size (size - p.start)
 
 -- what printing n rows from `at` on asks
-pub record RowsFit (size : ℕ) (places : List ℕ) (card n at room : ℕ) : Type 0 where
+pub record RowsFit (size : ℕ) (places : List Place) (card n at room : ℕ) : Type 0 where
   pub out-room : at + n * line_most ≤ room
-  pub names : n * 2 ≤ length places
+  pub names : n ≤ length places
   pub numbers : n * column_count ≤ card
-  pub right : every n (place_right size places) ≡ true
+  pub right : list_all (place_right size) (take n places) ≡ true
 
--- what printing row i at `at` asks
-pub record RowFits (size : ℕ) (places : List ℕ) (card i at room : ℕ) : Type 0 where
+-- what printing a row at `at` asks
+pub record RowFits (size : ℕ) (p : Place) (numbers at room : ℕ) : Type 0 where
   pub out-room : at + line_most ≤ room
-  pub names : i * 2 + 2 ≤ length places
-  pub numbers : i * column_count + column_count ≤ card
-  pub right : place_right size places i ≡ true
+  pub count : numbers ≡ column_count
+  pub right : place_right size p ≡ true
 
 -- n rows can be printed: there is room for the longest lines, and names and card have n rows
-unfoldable pub printable : ℕ → List ℕ → ℕ → ℕ → ℕ → Bool
+unfoldable pub printable : ℕ → List Place → ℕ → ℕ → ℕ → Bool
 printable size places card n room =
-    leb header_size room && leb n ((room - header_size) / line_most) && leb n (length places / 2) && leb n (card / column_count) &&
-    every n (place_right size places)
+    leb header_size room && leb n ((room - header_size) / line_most) && leb n (length places) && leb n (card / column_count) &&
+    list_all (place_right size) (take n places)
 
 -- what is printed: the card, or nothing where it cannot be
-unfoldable pub card_printed : List ℕ → List ℕ → List ℕ → ℕ → ℕ → List ℕ
+unfoldable pub card_printed : List ℕ → List Place → List ℕ → ℕ → ℕ → List ℕ
 card_printed s places card n room =
     cond (printable (length s) places (length card) n room) (card_text (names_at s n places) card) []
 

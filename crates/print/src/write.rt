@@ -1,11 +1,11 @@
-// Writing bytes, numbers and lines into a buffer, each from a place on; the answer is the place behind.
-ghost use Rattle.std.specs.Prelude.{◌∷◌, ◌+◌, ◌*◌, ◌≤◌, length, drop};
+// Writing bytes, numbers and lines into a buffer, each from a place on; the answer is the place behind. Buffer and place stay two
+// parameters: the contracts say what each call wrote and where it ended, which a struct of both would only repeat.
+ghost use Rattle.std.specs.Prelude.{◌≡◌, ◌∷◌, ◌+◌, ◌*◌, ◌≤◌, length};
 ghost use Rattle.layout.specs.Counts.{column_count};
 ghost use Rattle.print.specs.Write.{Wrote, digits_most, number_text};
 ghost use Rattle.print.specs.Card.{field_most, fields_most, numbers_line_most, fields_text, numbers_text, line_text, line_end};
 
-use blocks::put_bytes;
-use layout::COLUMNS;
+use blocks::put;
 
 // The bytes of a number and of a comma and a number, at most, and of a line's end.
 pub const DIGITS_MOST: usize = 20;
@@ -18,7 +18,7 @@ pub fn put_block(out: &mut [u8], at: usize, block: &[u8]) -> usize
     requires { at + length block.now ≤ length out.old }
     ensures { Wrote out.old at block.now out.new result }
 {
-    put_bytes(out, at, block);
+    put(out, at, block);
     at + block.len()
 }
 
@@ -55,42 +55,34 @@ pub(crate) fn put_end(out: &mut [u8], at: usize) -> usize
     at + 2
 }
 
-// So many numbers from a place on, each behind a comma.
-pub(crate) fn put_fields(
-    out: &mut [u8],
-    at: usize,
-    values: &[u64],
-    from: usize,
-    count: usize,
-) -> usize
-    requires { (at + count * field_most ≤ length out.old) × (from + count ≤ length values.now) }
-    ensures { Wrote out.old at (fields_text count (drop from values.now)) out.new result }
+// Numbers, each behind a comma.
+pub(crate) fn put_fields(out: &mut [u8], at: usize, values: &[u64]) -> usize
+    requires { at + length values.now * field_most ≤ length out.old }
+    ensures { Wrote out.old at (fields_text (length values.now) values.now) out.new result }
 {
-    let mut k = 0;
     let mut next = at;
-    while k < count {
-        next = put_field(out, next, values[from + k]);
-        k += 1;
+    for v in values {
+        next = put_field(out, next, *v);
     }
     next
 }
 
-// The first so many numbers, at least one, with commas between, and the end of their line.
-pub fn put_numbers(out: &mut [u8], at: usize, values: &[u64], count: usize) -> usize
-    requires { (at + numbers_line_most count ≤ length out.old) × (1 ≤ count) × (count ≤ length values.now) }
-    ensures { Wrote out.old at (numbers_text count values.now) out.new result }
+// Numbers, at least one, with commas between, and the end of their line.
+pub fn put_numbers(out: &mut [u8], at: usize, values: &[u64]) -> usize
+    requires { (at + numbers_line_most (length values.now) ≤ length out.old) × (1 ≤ length values.now) }
+    ensures { Wrote out.old at (numbers_text (length values.now) values.now) out.new result }
 {
     let begun = put_number(out, at, values[0]);
-    let done = put_fields(out, begun, values, 1, count - 1);
+    let done = put_fields(out, begun, &values[1..]);
     put_end(out, done)
 }
 
 // One line of the card.
-pub(crate) fn put_line(out: &mut [u8], at: usize, name: &[u8], card: &[u64], from: usize) -> usize
-    requires { (at + length name.now + fields_most + 2 ≤ length out.old) × (from + column_count ≤ length card.now) }
-    ensures { Wrote out.old at (line_text name.now (drop from card.now)) out.new result }
+pub(crate) fn put_line(out: &mut [u8], at: usize, name: &[u8], numbers: &[u64]) -> usize
+    requires { (at + length name.now + fields_most + 2 ≤ length out.old) × (length numbers.now ≡ column_count) }
+    ensures { Wrote out.old at (line_text name.now numbers.now) out.new result }
 {
     let named = put_block(out, at, name);
-    let numbered = put_fields(out, named, card, from, COLUMNS);
+    let numbered = put_fields(out, named, numbers);
     put_end(out, numbered)
 }

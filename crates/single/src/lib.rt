@@ -59,12 +59,12 @@ pub fn used(sides: Sides, to: Rounding) -> u64
     }
 }
 
-// Bit 31, bits 30 to 23 and bits 22 to 0: 0x8000_0000 is 2 ^ 31, and 0x80_0000 is 2 ^ 23. Only what is not a number differs from itself; Rattle gives
-// no bits for it, and one pattern, with exponent 255, stands for all.
+// Bit 31, bits 30 to 23 and bits 22 to 0: 0x8000_0000 is 2 ^ 31, and 0x80_0000 is 2 ^ 23. Of what is not a number Rattle gives no bits: one
+// pattern, with exponent 255, stands for all.
 fn parts_of(x: f32) -> Parts
     ensures { result ≡ parts_of (to_bits binary32 x) }
 {
-    let bits = if x != x {
+    let bits = if x.is_nan() {
         0x7fc0_0000
     } else {
         f32::to_bits(x) as u64
@@ -116,8 +116,8 @@ fn rounded(product: Product) -> Sides
     }
 }
 
-// A single times a scale, by the whole mA on both its sides; none where the one that is used is not allowed, from 1 to 100,000,000. The scale, in mA
-// for each unit of the single, is from 1 to 100,000,000.
+// A single times a scale, by the whole mA on both its sides; none where the one that is used is not from 1 to 100,000,000. So is the scale, in
+// mA for each unit of the single.
 pub fn whole_current(x: f32, scale: u64, to: Rounding) -> Option<Sides>
     requires { T (allowed scale) }
     ensures { result ≡ current_of to x scale }

@@ -97,8 +97,8 @@ pub fn refused(place: u64) -> Converted
     Converted::from(Err(Refusal::Study(place)))
 }
 
-// The sides of both readings: the rated currents are tested before either reading, and the greatest before the least. A reading is refused by the
-// side that is used.
+// The sides of both readings: the rated currents are tested before either reading, and the greatest before the least. A reading is refused
+// by the side that is used.
 #[tactic(auto, unfolding(crate::specs::Currents::convert_of))]
 fn study_sides(s: Study) -> Result<StudySides, Refusal>
     ensures { given_for result ≡ convert_of s }

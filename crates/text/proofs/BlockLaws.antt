@@ -3,51 +3,35 @@ use mathlib.Core.Path.{◌≡◌, sym, ap, ◌∙◌}
 use mathlib.Core.Logic.{⊎_elim}
 use mathlib.Core.List.{List, ◌++◌}
 use Prim.Native.Nat.{ℕ, ◌+◌, ◌*◌, ◌/◌, ◌≤◌, ◌<◌, min}
-use native.Mathlib.Nat.{suc-mul, add-mul, one-mul, zero-mul, mul-le-mul_right, le_trans, div-mul-le_self, div-zero, min-eq_left}
+use native.Mathlib.Nat.{add-mul, one-mul, zero-mul, div-zero, min-eq_left}
 use native.Mathlib.Omega.{arith}
 use lib.ListN.{length, take, drop, length-append}
 use lib.Seq.{paste, take-add, drop-drop, take_at, drop_at, length-take-le, take-length, take_all}
 use borrow.Author.Tests.{lt-ltb, le-ltb}
 use Rattle.fold.proofs.BoolLaws.{lt-or-le}
-use Rattle.text.specs.Text.{over, kept_in, kept_front, blocks_over}
-
--- block n of w numbers each ends inside, where n is below the room
-pub block_inside : (n room w len : ℕ) → n < room → room * w ≤ len → n * w + w ≤ len
-block_inside n room w len h k =
-    let m = mul-le-mul_right w h in
-    let q : n * w + w ≤ room * w = rw (suc-mul n w) at m in
-    le_trans q k
-
--- where n is below the room that a buffer has
-pub room-inside : (n w len : ℕ) → n < len / w → n * w + w ≤ len
-room-inside n w len h = block_inside n (len / w) w len h (div-mul-le_self len w)
+use Rattle.text.specs.Text.{over, kept_in, blocks_over}
 
 -- a block of nothing changes nothing
-pub kept-empty : (n : ℕ) (block l : List ℕ) → length block ≡ 0 → l ≡ kept_in (length l / length block) n block l
+pub kept-empty : {A : Type 0} → (n : ℕ) (block l : List A) → length block ≡ 0 → l ≡ kept_in (length l / length block) n block l
 unfolding kept_in
 kept-empty n block l h = rw (h, div-zero (length l), le-ltb n 0 (omega arith))
 
-pub kept-below : (room n : ℕ) (block l : List ℕ) → n < room → paste l (n * length block) block (length block) ≡ kept_in room n block l
+pub kept-below : {A : Type 0} → (room n : ℕ) (block l : List A) → n < room → paste l (n * length block) block (length block) ≡ kept_in room n block l
 unfolding kept_in
 kept-below room n block l h = rw (lt-ltb n room h)
 
-pub kept_above : (room n : ℕ) (block l : List ℕ) → room ≤ n → l ≡ kept_in room n block l
+pub kept_above : {A : Type 0} → (room n : ℕ) (block l : List A) → room ≤ n → l ≡ kept_in room n block l
 unfolding kept_in
 kept_above room n block l h = rw (le-ltb n room h)
 
--- a block of so many numbers, by another name for how many
-pub kept-as :
-    (a out out' : List ℕ) (n w w' : ℕ) → w ≡ w' → out' ≡ kept_front w n a out → out' ≡ kept_front w' n a out
-kept-as a out out' n w w' e h = rw e at h
-
-pub kept-start : (room w : ℕ) (xs l : List ℕ) → l ≡ blocks_over room w 0 xs l
+pub kept-start : {A : Type 0} → (room w : ℕ) (xs l : List A) → l ≡ blocks_over room w 0 xs l
 unfolding blocks_over over
 kept-start room w xs l =
     let z : min 0 room ≡ 0 = omega arith in
     rw (z, zero-mul w)
 
 -- the part of xs that is left begins with a block
-module _ (w n : ℕ) (xs block rest : List ℕ) (e : drop (n * w) xs ≡ block ++ rest) (long : length block ≡ w) (h : n * w ≤ length xs) where
+module _ {A : Type 0} (w n : ℕ) (xs block rest : List A) (e : drop (n * w) xs ≡ block ++ rest) (long : length block ≡ w) (h : n * w ≤ length xs) where
   pub block-behind : drop ((n + 1) * w) xs ≡ rest
   block-behind =
       rw (add-mul n 1 w, one-mul w)
@@ -56,13 +40,13 @@ module _ (w n : ℕ) (xs block rest : List ℕ) (e : drop (n * w) xs ≡ block +
   block-taken : take ((n + 1) * w) xs ≡ take (n * w) xs ++ block
   block-taken =
       rw (add-mul n 1 w, one-mul w)
-      (take-add (n * w) w xs ∙ ap (λ (r : List ℕ). take (n * w) xs ++ r) (rw e (take_at block rest w long)))
+      (take-add (n * w) w xs ∙ ap (λ (r : List A). take (n * w) xs ++ r) (rw e (take_at block rest w long)))
 
   front_long : length (take (n * w) xs) ≡ n * w
   front_long = length-take-le (n * w) xs h
 
   -- over what was written comes the block, and then what was there
-  pasted : (l : List ℕ) → paste (over (take (n * w) xs) l) (n * w) block w ≡ over (take (n * w) xs ++ block) l
+  pasted : (l : List A) → paste (over (take (n * w) xs) l) (n * w) block w ≡ over (take (n * w) xs ++ block) l
   unfolding over
   pasted l =
       let f = front_long in
@@ -74,7 +58,7 @@ module _ (w n : ℕ) (xs block rest : List ℕ) (e : drop (n * w) xs ≡ block +
       let k : length (take (n * w) xs ++ block) ≡ n * w + w = rw (length-append (take (n * w) xs) block, f, long) in
       rw (f, k, a, b, d)
 
-  pub kept_next : (room : ℕ) (l l' : List ℕ) → l' ≡ blocks_over room w n xs l → kept_in room n block l' ≡ blocks_over room w (n + 1) xs l
+  pub kept_next : (room : ℕ) (l l' : List A) → l' ≡ blocks_over room w n xs l → kept_in room n block l' ≡ blocks_over room w (n + 1) xs l
   unfolding blocks_over
   kept_next room l l' q = ⊎_elim below above (lt-or-le n room)
     where
@@ -91,7 +75,7 @@ module _ (w n : ℕ) (xs block rest : List ℕ) (e : drop (n * w) xs ≡ block +
           sym (kept_above room n block l' k) ∙ rw a at q
 
 -- a buffer over whose start n blocks of w numbers were written, there being room for them
-pub blocks-front : (room w n : ℕ) (xs l : List ℕ) → n ≤ room → length xs ≡ n * w → blocks_over room w n xs l ≡ xs ++ drop (length xs) l
+pub blocks-front : {A : Type 0} → (room w n : ℕ) (xs l : List A) → n ≤ room → length xs ≡ n * w → blocks_over room w n xs l ≡ xs ++ drop (length xs) l
 unfolding blocks_over over
 blocks-front room w n xs l h e =
     let m : min n room ≡ n = min-eq_left h in

@@ -3,7 +3,7 @@ use mathlib.Core.Path.{◌≡◌, refl, sym, ap, ◌∙◌}
 use mathlib.Core.Bool.{Bool, true, false, cond}
 use mathlib.Core.Logic.{⊎_elim}
 use mathlib.Core.List.{List, [], ◌∷◌, ◌++◌}
-use Prim.Native.Nat.{ℕ, zero, suc, ◌+◌, ◌-◌, ◌*◌, ◌≤◌, ◌<◌}
+use Prim.Native.Nat.{ℕ, zero, suc, ◌+◌, ◌-◌, ◌≤◌, ◌<◌}
 use native.Mathlib.Omega.{arith}
 use lib.ListN.{length, get_or, drop, replicate, length-append, length-replicate}
 use lib.Seq.{get_or-append-add}
@@ -27,7 +27,7 @@ columns-long c =
 pub some-columns : (c : Columns) → Usable c → 1 ≤ length (columns_of c)
 some-columns c u = rw (columns-long c) (by-test c.named u.some)
   where
-    by-test : (t : Bool) → 1 ≤ c.before + c.after + cond t 2 0 → 1 ≤ c.before + cond t 1 0 + c.after
+    by-test : (t : Bool) → 1 ≤ c.before + c.after + cond t 1 0 → 1 ≤ c.before + cond t 1 0 + c.after
     by-test true h = omega arith
     by-test false h = omega arith
 
@@ -91,7 +91,7 @@ cell-numbers-long [] l = refl
 cell-numbers-long (Numbers ∷ ks) l = ap suc (cell-numbers-long ks (after_cell Numbers l))
 cell-numbers-long (Names ∷ ks) l = cell-numbers-long ks (after_cell Names l)
 
-pub cell-places-long : (ks : List Column) (i : ℕ) (l : List ℕ) → length (cell_places ks i l) ≡ names_in ks * 2
+pub cell-places-long : (ks : List Column) (i : ℕ) (l : List ℕ) → length (cell_places ks i l) ≡ names_in ks
 unfolding cell_places
 cell-places-long [] i l = refl
 cell-places-long (Numbers ∷ ks) i l = cell-places-long ks (i + cell_length Numbers (drop 1 l) + 1) (after_cell Numbers l)
@@ -106,14 +106,14 @@ numbers-only : (b : ℕ) → (numbers_in (replicate b Numbers) ≡ b) × (names_
 numbers-only zero = (refl, refl)
 numbers-only (suc b) = let h = numbers-only b in (ap suc h.0, h.1)
 
-pub counted : (c : Columns) → (numbers_in (columns_of c) ≡ number_count c) × (names_in (columns_of c) * 2 ≡ place_count c)
+pub counted : (c : Columns) → (numbers_in (columns_of c) ≡ number_count c) × (names_in (columns_of c) ≡ place_count c)
 unfolding columns_of
 counted c = by-test c.named
   where
     by-test :
         (t : Bool) →
         (numbers_in (replicate c.before Numbers ++ (cond t (Names ∷ []) [] ++ replicate c.after Numbers)) ≡ number_count c) ×
-        (names_in (replicate c.before Numbers ++ (cond t (Names ∷ []) [] ++ replicate c.after Numbers)) * 2 ≡ cond t 2 0)
+        (names_in (replicate c.before Numbers ++ (cond t (Names ∷ []) [] ++ replicate c.after Numbers)) ≡ cond t 1 0)
     by-test true =
         let a = numbers-before c.before (Names ∷ replicate c.after Numbers) in
         let b = numbers-only c.after in

@@ -1,5 +1,6 @@
 -- How many lines a text can have, and how many numbers its rows. A line has a byte at least for each of its columns, and commas between them;
 -- CRLF stands between lines.
+use Rattle.std.proofs.Common.{Ok}
 use mathlib.Core.Path.{◌≡◌, sym, ◌∙◌}
 use mathlib.Core.List.{List, [], ◌∷◌}
 use Prim.Native.Nat.{ℕ, ◌+◌, ◌*◌, ◌≤◌}
@@ -8,7 +9,6 @@ use native.Mathlib.Omega.{arith}
 use lib.ListN.{length, length-append}
 use Rattle.cursor.specs.declared.Column.{Column}
 use Rattle.text.specs.declared.Columns.{Columns}
-use Rattle.text.specs.declared.Reading.TheVariants.{Rows}
 use Rattle.text.specs.Grammar.{Row, Cells, Lines, Text}
 use Rattle.text.specs.Line.{columns_of, number_count, numbers_of}
 use Rattle.text.specs.Text.{read_as, rows_read_as, all_numbers}
@@ -31,7 +31,7 @@ text-many Text.alone = omega arith
 text-many (Text.rows {h = h} {s = s} t) = omega (arith, lines-many t, length-append h (13 ∷ 10 ∷ s))
 
 -- a text that was read whole: as many rows are read as it has, and each has its numbers
-pub rows-read : (h : List ℕ) (ks : List Column) (k : ℕ) (s : List ℕ) (n : ℕ) → read_as h ks k s ≡ Rows n → rows_read_as h ks s ≡ n
+pub rows-read : (h : List ℕ) (ks : List Column) (k : ℕ) (s : List ℕ) (n : ℕ) → read_as h ks k s ≡ Ok n → rows_read_as h ks s ≡ n
 unfolding rows_read_as
 rows-read h ks k s n e = let a = accepted h ks k s n e in rw (a.size, a.headed-is) (a.good ∙ a.count)
 

@@ -1,4 +1,7 @@
 -- Numbers written one after the other over the zeros of a buffer.
+use Rattle.cursor.specs.declared.Place.{Place}
+use Rattle.text.specs.Line.{listed, first_place}
+use Rattle.std.proofs.Common.{Option, Some, None}
 use mathlib.Core.Path.{◌≡◌, refl, sym, ap, ◌∙◌}
 use mathlib.Core.List.{List, [], ◌∷◌, ◌++◌, append-nil}
 use Prim.Native.Nat.{ℕ, suc, ◌+◌, ◌-◌, ◌≤◌, ◌<◌}
@@ -42,10 +45,17 @@ module _ (most : ℕ) (a left all : List ℕ) (n v : ℕ) (f : Filled most a (v 
         sum = append_snoc f.written v left ∙ f.sum;
       }
 
--- two numbers that are all there is room for
-pub filled-both : (a left all : List ℕ) (n x y : ℕ) → Filled 2 a (x ∷ y ∷ left) all n → length all ≤ 2 → Filled 2 (x ∷ y ∷ []) left all 2
-filled-both a left all n x y f fits = of-written f.written f.sum
-  where
-    of-written : (w : List ℕ) → w ++ x ∷ y ∷ left ≡ all → Filled 2 (x ∷ y ∷ []) left all 2
-    of-written [] e = record { written = x ∷ y ∷ []; count = refl; is = refl; sum = e }
-    of-written (b ∷ w) e = absurd (omega (arith, length-append w (x ∷ y ∷ left), ap length e))
+-- a name's place that was read, if any, makes up all places with those left
+abbrev pub Named : Option Place → List Place → List Place → Type 0
+Named name left all = listed name ++ left ≡ all
+
+pub named-done : (name : Option Place) (all : List Place) → Named name [] all → name ≡ first_place all
+named-done None [] e = refl
+named-done (Some p) (q ∷ ps) e = cc
+named-done None (q ∷ ps) e = absurd (omega (arith, ap length e))
+named-done (Some p) [] e = absurd (omega (arith, ap length e))
+
+-- a place that is all there is room for
+pub named-one : (name : Option Place) (p : Place) (left all : List Place) → Named name (p ∷ left) all → length all ≤ 1 → Named (Some p) left all
+named-one None p left all e fits = e
+named-one (Some q) p left all e fits = absurd (omega (arith, ap length e))

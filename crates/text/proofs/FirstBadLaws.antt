@@ -1,4 +1,5 @@
 -- The tests of the reading, by what they say of the bytes: the size, the header first, and the first bad line.
+use Rattle.text.specs.Text.{bad_line}
 use mathlib.Core.Path.{◌≡◌, refl, sym, ap, ◌∙◌}
 use mathlib.Core.Bool.{true, false}
 use mathlib.Core.Logic.{inl, inr, ⊎_elim}
@@ -13,7 +14,6 @@ use Rattle.fold.proofs.BoolLaws.{lt-or-le, not-both}
 use Rattle.cursor.specs.declared.Column.{Column}
 use Rattle.cursor.specs.Bytes.{run}
 use Rattle.cursor.proofs.RunLaws.{run_length, run_end, run_at}
-use Rattle.text.specs.declared.Reading.TheVariants.{BadLine}
 use Rattle.text.specs.Line.{is_line}
 use Rattle.text.specs.Text.{text_most, lines, after_line, next_is_line, good_lines, lines_read, size_right, headed, row_lines}
 use Rattle.text.specs.Grammar.{row_of}
@@ -81,10 +81,10 @@ module _ (ks : List Column) (ls : List (List ℕ)) where
       (lt-or-le j (run (next_is_line ks) ls)))
       (lt-or-le (run (next_is_line ks) ls) j)
 
-  pub lines-bad : (k j : ℕ) → FirstBad ks ls j → lines_read ks k ls ≡ BadLine (k + j)
+  pub lines-bad : (k j : ℕ) → FirstBad ks ls j → lines_read ks k ls ≡ bad_line (k + j)
   lines-bad k j f =
       let e = first-bad j f in
-      lines-refused ks k ls (λ q. omega (arith, f.inside)) ∙ ap (λ (i : ℕ). BadLine (k + i)) e
+      lines-refused ks k ls (λ q. omega (arith, f.inside)) ∙ ap (λ (i : ℕ). bad_line (k + i)) e
 
 pub no-lines-good : (ks : List Column) → good_lines ks [] ≡ 0
 unfolding good_lines run

@@ -1,4 +1,5 @@
 -- In a well-formed text each name's place lies inside the text and holds the name that the grammar gives the row.
+use Rattle.cursor.specs.Names.{name_at_place}
 use mathlib.Core.Path.{◌≡◌, sym, ap, ◌∙◌}
 use mathlib.Core.Bool.{true, ◌&&◌}
 use mathlib.Core.Logic.{⊎_elim}
@@ -43,7 +44,7 @@ next-bytes s l e i n h =
 cells-stand :
     (ks : List Column) (s l : List ℕ) (e i : ℕ) → e ≤ length s → drop 1 l ≡ take (e - i) (drop i s) → are_cells ks l ≡ true →
     Stand s (cell_places ks i l) (cell_names ks l)
-unfolding are_cells cell_places cell_names is_cell cell_length after_cell
+unfolding are_cells cell_places cell_names is_cell cell_length after_cell name_at_place
 cells-stand [] s l e i fits h g = stand-none s
 cells-stand (Numbers ∷ ks) s l e i fits h g =
     cells-stand ks s (after_cell Numbers l) e (i + cell_length Numbers (drop 1 l) + 1) fits (next-bytes s l e i (cell_length Numbers (drop 1 l)) h)
@@ -60,7 +61,7 @@ cells-stand (Names ∷ ks) s l e i fits h g =
     let some : 1 ≤ n = rw t at v.name.some in
     let short : n ≤ name_most = rw t at v.name.most in
     let p : take n (drop i s) ≡ take n (drop 1 l) = sym (ap (take n) h ∙ take-take n (e - i) (drop i s) (omega arith)) in
-    stand-one s i n (take n (drop 1 l)) _ _ short (omega arith) p
+    stand-one s (record { start = i; size = n }) (take n (drop 1 l)) _ _ (record { short = short; inside = omega arith }) p
     (cells-stand ks s (after_cell Names l) e (i + n + 1) fits (next-bytes s l e i n h)
     (and_right (is_comma l && is_name (drop 1 l)) (are_cells ks (after_cell Names l)) g))
 

@@ -1,11 +1,14 @@
 -- `same_bytes` passes exactly where two lists are equal.
-use mathlib.Core.Path.{◌≡◌, refl, sym, ap₂}
-use mathlib.Core.Bool.{Bool, true, false, false≢true}
+use Rattle.std.proofs.Common.{◌&&◌}
+use Rattle.std.specs.Cmp.Lexicographic.{pointwise}
+use mathlib.Core.Path.{ap}
+use mathlib.Core.Path.{◌≡◌, refl, ap₂}
+use mathlib.Core.Bool.{Bool, true, false≢true}
 use mathlib.Core.List.{List, [], ◌∷◌}
 use Prim.Native.Nat.{ℕ}
 use lib.Dec.{eqb}
 use borrow.Author.Tests.{eq-eqb, eqb-true}
-use Rattle.fold.proofs.BoolLaws.{and_left, and_right, fails}
+use Rattle.fold.proofs.BoolLaws.{and_left, and_right}
 use Rattle.text.specs.Text.{same_bytes}
 
 pub same-equal : (a b : List ℕ) → same_bytes a b ≡ true → a ≡ b
@@ -21,10 +24,10 @@ unfolding same_bytes
 same_refl [] = refl
 same_refl (x ∷ a) = rw (eq-eqb x x refl) (same_refl a)
 
-pub same_not : (a b : List ℕ) → (a ≡ b → ⊥) → same_bytes a b ≡ false
-same_not a b h = fails (same_bytes a b) (λ t. h (same-equal a b t))
-
--- a test that passes exactly where two lists are equal
-pub same_by : (a b : List ℕ) (r : Bool) → (r ≡ true → a ≡ b) → (a ≡ b → r ≡ true) → r ≡ same_bytes a b
-same_by a b true to from = rw (to refl) (sym (same_refl b))
-same_by a b false to from = sym (same_not a b (λ e. false≢true (from e)))
+-- the library's comparison
+pub same-pointwise : (a b : List ℕ) → pointwise eqb a b ≡ same_bytes a b
+unfolding same_bytes
+same-pointwise [] [] = refl
+same-pointwise [] (y ∷ b) = refl
+same-pointwise (x ∷ a) [] = refl
+same-pointwise (x ∷ a) (y ∷ b) = ap (λ (t : Bool). eqb x y && t) (same-pointwise a b)

@@ -1,22 +1,26 @@
 -- Names by their places: start and length, inside the bytes s.
+use Rattle.cursor.specs.declared.Place.{Place}
 use mathlib.Core.Path.{◌≡◌, refl, ap, ap₂, ◌∙◌}
 use mathlib.Core.List.{List, [], ◌∷◌, ◌++◌}
-use Prim.Native.Nat.{ℕ, zero, suc, ◌+◌, ◌*◌, ◌≤◌, ◌<◌}
+use Prim.Native.Nat.{ℕ, zero, suc, ◌+◌, ◌≤◌, ◌<◌}
 use native.Mathlib.Omega.{arith}
-use lib.ListN.{length, get_or, take, drop, length-append}
+use lib.ListN.{length, get_or, length-append}
 use Rattle.cursor.specs.Pieces.{name_most}
 use Rattle.cursor.specs.Names.{name_at_place, names_at}
 
--- starts and lengths of names, each of at most 24 bytes and inside so many
-abbrev pub Inside : ℕ → List ℕ → Type 0
+-- places of names, each of at most 24 bytes and inside so many
+pub record PlaceInside (size : ℕ) (p : Place) : Type 0 where
+  pub short : p.size ≤ name_most
+  pub inside : p.start + p.size ≤ size
+
+abbrev pub Inside : ℕ → List Place → Type 0
 Inside size [] = Unit
-Inside size (a ∷ []) = ⊥
-Inside size (a ∷ n ∷ ps) = (n ≤ name_most) × (a + n ≤ size) × Inside size ps
+Inside size (p ∷ ps) = PlaceInside size p × Inside size ps
 
 -- what places say of names in the bytes s
-pub record Stand (s ps : List ℕ) (names : List (List ℕ)) : Type 0 where
+pub record Stand (s : List ℕ) (ps : List Place) (names : List (List ℕ)) : Type 0 where
   pub inside : Inside (length s) ps
-  pub long : length ps ≡ length names * 2
+  pub long : length ps ≡ length names
   pub are : names_at s (length names) ps ≡ names
 
 pub stand-none : (s : List ℕ) → Stand s [] []
@@ -24,30 +28,27 @@ unfolding names_at
 stand-none s = record { inside = tt; long = refl; are = refl }
 
 pub stand-one :
-    (s : List ℕ) (a n : ℕ) (v : List ℕ) (ps : List ℕ) (vs : List (List ℕ)) → n ≤ name_most → a + n ≤ length s → take n
-    (drop a s) ≡ v → Stand s ps vs →
-    Stand s (a ∷ n ∷ ps) (v ∷ vs)
-unfolding names_at name_at_place
-stand-one s a n v ps vs short fits e h =
-    record { inside = (short, fits, h.inside); long = omega (arith, h.long); are = ap₂ ◌∷◌ e h.are }
+    (s : List ℕ) (p : Place) (v : List ℕ) (ps : List Place) (vs : List (List ℕ)) → PlaceInside (length s) p → name_at_place s p ≡ v → Stand s ps vs →
+    Stand s (p ∷ ps) (v ∷ vs)
+unfolding names_at
+stand-one s p v ps vs i e h = record { inside = (i, h.inside); long = omega (arith, h.long); are = ap₂ ◌∷◌ e h.are }
 
-inside_both : (size : ℕ) (ps qs : List ℕ) → Inside size ps → Inside size qs → Inside size (ps ++ qs)
+inside_both : (size : ℕ) (ps qs : List Place) → Inside size ps → Inside size qs → Inside size (ps ++ qs)
 inside_both size [] qs h k = k
-inside_both size (a ∷ []) qs h k = absurd h
-inside_both size (a ∷ n ∷ ps) qs h k = (h.0, h.1, inside_both size ps qs h.2 k)
+inside_both size (p ∷ ps) qs h k = (h.0, inside_both size ps qs h.1 k)
 
 names-both :
-    (s : List ℕ) (vs : List (List ℕ)) (m : ℕ) (ps qs : List ℕ) → length ps ≡ length vs * 2 →
+    (s : List ℕ) (vs : List (List ℕ)) (m : ℕ) (ps qs : List Place) → length ps ≡ length vs →
     names_at s (length vs + m) (ps ++ qs) ≡ names_at s (length vs) ps ++ names_at s m qs
-unfolding names_at name_at_place
+unfolding names_at
 names-both s [] m [] qs h = rw (native.Mathlib.Nat.zero-add m)
-names-both s [] m (a ∷ ps) qs h = absurd (omega arith)
+names-both s [] m (p ∷ ps) qs h = absurd (omega arith)
 names-both s (v ∷ vs) m [] qs h = absurd (omega arith)
-names-both s (v ∷ vs) m (a ∷ []) qs h = absurd (omega arith)
-names-both s (v ∷ vs) m (a ∷ n ∷ ps) qs h =
-    rw (native.Mathlib.Nat.suc-add (length vs) m) (ap (λ (x : List (List ℕ)). take n (drop a s) ∷ x) (names-both s vs m ps qs (omega arith)))
+names-both s (v ∷ vs) m (p ∷ ps) qs h =
+    rw (native.Mathlib.Nat.suc-add (length vs) m)
+    (ap (λ (x : List (List ℕ)). name_at_place s p ∷ x) (names-both s vs m ps qs (omega arith)))
 
-pub stand-both : (s ps qs : List ℕ) (vs ws : List (List ℕ)) → Stand s ps vs → Stand s qs ws → Stand s (ps ++ qs) (vs ++ ws)
+pub stand-both : (s : List ℕ) (ps qs : List Place) (vs ws : List (List ℕ)) → Stand s ps vs → Stand s qs ws → Stand s (ps ++ qs) (vs ++ ws)
 stand-both s ps qs vs ws h k =
     record {
       inside = inside_both (length s) ps qs h.inside k.inside;
@@ -56,16 +57,7 @@ stand-both s ps qs vs ws h k =
     }
 
 -- the place of name k, by its index
-pub record PlaceInside (size : ℕ) (places : List ℕ) (k : ℕ) : Type 0 where
-  pub short : get_or places (k * 2 + 1) 0 ≤ name_most
-  pub inside : get_or places (k * 2) 0 + get_or places (k * 2 + 1) 0 ≤ size
-
-pub inside-at : (size : ℕ) (ps : List ℕ) (k : ℕ) → Inside size ps → k * 2 < length ps → PlaceInside size ps k
-inside-at size [] k h i = absurd (omega arith)
-inside-at size (a ∷ []) k h i = absurd h
-inside-at size (a ∷ n ∷ ps) zero h i = record { short = h.0; inside = h.1 }
-inside-at size (a ∷ n ∷ ps) (suc k) h i =
-    let p = inside-at size ps k h.2 (omega arith) in
-    let e : suc k * 2 ≡ suc (suc (k * 2)) = omega arith in
-    let e' : suc k * 2 + 1 ≡ suc (suc (k * 2 + 1)) = omega arith in
-    record { short = rw e' p.short; inside = rw (e', e) p.inside }
+pub inside-at : (size : ℕ) (ps : List Place) (k : ℕ) (d : Place) → Inside size ps → k < length ps → PlaceInside size (get_or ps k d)
+inside-at size [] k d h i = absurd (omega arith)
+inside-at size (p ∷ ps) zero d h i = h.0
+inside-at size (p ∷ ps) (suc k) d h i = inside-at size ps k d h.1 (omega arith)

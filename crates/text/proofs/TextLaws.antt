@@ -1,4 +1,6 @@
 -- What is left of a text at a cursor: its size, its header, its rows.
+use Rattle.cursor.specs.declared.Place.{Place}
+use Rattle.text.specs.Text.{Reading, bad_line}
 use mathlib.Core.Path.{◌≡◌, ap, ◌∙◌}
 use mathlib.Core.Bool.{Bool, true, false}
 use mathlib.Core.List.{List}
@@ -11,8 +13,6 @@ use borrow.Author.Tests.{le-leb, lt-leb}
 use Rattle.cursor.specs.declared.Cursor.{Cursor}
 use Rattle.cursor.specs.Pieces.{moved, next_line}
 use Rattle.text.specs.declared.Columns.{Columns}
-use Rattle.text.specs.declared.Reading.{Reading}
-use Rattle.text.specs.declared.Reading.TheVariants.{BadLine}
 use Rattle.text.specs.Line.{columns_of, number_count, place_count}
 use Rattle.text.specs.Text.{text_most, lines, line_length, after_line, same_bytes, size_right, headed}
 use Rattle.text.specs.Text.{row_lines, read_as, rows_read_as, numbers_as, places_as, LinesTaken, TextTaken}
@@ -26,7 +26,7 @@ pub size-wrong : (s : List ℕ) → text_most < length s → size_right s ≡ fa
 unfolding size_right
 size-wrong s h = lt-leb (length s) text_most h
 
-module _ (h : List ℕ) (b : Columns) (i k : ℕ) (s numbers names : List ℕ) where
+module _ (h : List ℕ) (b : Columns) (i k : ℕ) (s numbers : List ℕ) (names : List Place) where
   -- where no row is read, the buffers stay
   untouched : (r : Reading) → r ≡ read_as h (columns_of b) k s → rows_read_as h (columns_of b) s ≡ 0 → TextTaken h b i k s numbers names numbers names r
   untouched r e z =
@@ -35,16 +35,16 @@ module _ (h : List ℕ) (b : Columns) (i k : ℕ) (s numbers names : List ℕ) w
         taken = record { numbers-are = rw z (kept-start _ (number_count b) _ numbers); names-are = rw z (kept-start _ (place_count b) _ names) };
       }
 
-  pub text-long : text_most < length s → TextTaken h b i k s numbers names numbers names (BadLine 0)
+  pub text-long : text_most < length s → TextTaken h b i k s numbers names numbers names (bad_line 0)
   unfolding read_as rows_read_as
-  text-long l = untouched (BadLine 0) (rw (size-wrong s l)) (rw (size-wrong s l))
+  text-long l = untouched (bad_line 0) (rw (size-wrong s l)) (rw (size-wrong s l))
 
-  pub text-unheaded : length s ≤ text_most → headed h s ≡ false → TextTaken h b i k s numbers names numbers names (BadLine k)
+  pub text-unheaded : length s ≤ text_most → headed h s ≡ false → TextTaken h b i k s numbers names numbers names (bad_line k)
   unfolding read_as rows_read_as
-  text-unheaded l u = untouched (BadLine k) (rw (size-right s l, u)) (rw (size-right s l, u))
+  text-unheaded l u = untouched (bad_line k) (rw (size-right s l, u)) (rw (size-right s l, u))
 
   rows_of :
-      (numbers' names' : List ℕ) (r : Reading) → length s ≤ text_most → headed h s ≡ true →
+      (numbers' : List ℕ) (names' : List Place) (r : Reading) → length s ≤ text_most → headed h s ≡ true →
       LinesTaken b (i + line_length s + 2) (k + 1) (lines (after_line s)) numbers names numbers' names' r →
       TextTaken h b i k s numbers names numbers' names' r
   unfolding read_as rows_read_as numbers_as places_as row_lines
@@ -64,7 +64,7 @@ module _ (h : List ℕ) (b : Columns) (text : List ℕ) (c p : Cursor) (past : p
       rw n at e
 
   pub text-rows :
-      (numbers names numbers' names' : List ℕ) (r : Reading) (d : Cursor) → d ≡ next_line p → length (drop c.at text) ≤ text_most →
+      (numbers : List ℕ) (names : List Place) (numbers' : List ℕ) (names' : List Place) (r : Reading) (d : Cursor) → d ≡ next_line p → length (drop c.at text) ≤ text_most →
       headed h (drop c.at text) ≡ true →
       LinesTaken b d.at d.line (lines (drop d.at text)) numbers names numbers' names' r →
       TextTaken h b c.at c.line (drop c.at text) numbers names numbers' names' r

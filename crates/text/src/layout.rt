@@ -1,7 +1,7 @@
 // The columns of a layout.
 ghost use Rattle.std.specs.Prelude.{◌≡◌, length, get_or};
 ghost use Rattle.cursor.specs.declared.Column.TheVariants.{Numbers};
-ghost use Rattle.text.specs.Line.{columns_of, number_count, place_count, Usable};
+ghost use Rattle.text.specs.Line.{columns_of, number_count, Usable};
 
 use super::Columns;
 use cursor::Column;
@@ -13,13 +13,6 @@ impl Columns {
         ensures { result ≡ number_count self }
     {
         self.before + self.after
-    }
-
-    // How many numbers say where its name stands.
-    pub(crate) fn places(self) -> usize
-        ensures { result ≡ place_count self }
-    {
-        if self.named { 2 } else { 0 }
     }
 
     // How many columns a line has.

@@ -6,10 +6,9 @@ mod layout;
 mod line;
 
 ghost use Rattle.std.specs.Prelude.{◌≡◌, ◌≤◌, length, drop};
-ghost use Rattle.text.specs.Text.{lines, same_bytes, Ready, LinesTaken, TextTaken};
+ghost use Rattle.text.specs.Text.{lines, Ready, LinesTaken, TextTaken};
 
-use check::same;
-use cursor::{Class, Cursor};
+use cursor::{Class, Cursor, Place};
 use keep::keep_row;
 use line::read_line;
 
@@ -24,20 +23,16 @@ pub struct Columns {
     pub after: usize,
 }
 
-// A line read: its numbers, and its name's start and length, with zeros behind them. All 0 where the line is bad.
+// A line read: its numbers, with zeros behind them, and its name's place, if the layout has a name.
 #[derive(Clone, Copy)]
 pub struct LineRead {
-    pub good: bool,
     pub numbers: [u64; NUMBERS_MOST],
-    pub place: [u64; 2],
+    pub name: Option<Place>,
 }
 
-// What reading a text gives: its first bad line, 0 where it is too long, or the number of its rows.
+// The first bad line of a text, 0 where the text is too long.
 #[derive(Clone, Copy)]
-pub enum Reading {
-    BadLine(u64),
-    Rows(usize),
-}
+pub struct BadLine(pub u64);
 
 // A text has at most so many bytes.
 pub const TEXT_MOST: usize = 65536;
@@ -45,62 +40,53 @@ pub const TEXT_MOST: usize = 65536;
 // Room to read one into: a byte more, so that a longer one is seen to be longer.
 pub const TEXT_ROOM: usize = TEXT_MOST + 1;
 
-// The lines from a cursor on, a row in each.
+// The lines from a cursor on, a row in each; how many there are, or the first bad one.
 pub fn read_rows(
     text: &[u8],
     from: Cursor,
     columns: Columns,
     numbers: &mut [u64],
-    names: &mut [u64],
-) -> Reading
+    names: &mut [Place],
+) -> Result<usize, BadLine>
     requires { Ready columns from }
     ensures { LinesTaken columns from.at from.line (lines (drop from.at text.now))
         numbers.old names.old numbers.new names.new result }
 {
     let mut c = from;
     let mut n = 0;
+    // each turn goes on by a line, whose length no `for` knows
     while c.at < text.len() {
         let past = c.skip(Class::InLine, text);
-        let end = past.at;
-        let read = read_line(c, &text[..end], columns);
-        if !read.good {
-            return Reading::BadLine(c.line);
-        }
-        keep_row(numbers, names, columns, n, read);
+        let Some(row) = read_line(c, &text[..past.at], columns) else {
+            return Err(BadLine(c.line));
+        };
+        keep_row(numbers, names, columns, n, row);
         c = past.next_line();
         n += 1;
     }
-    Reading::Rows(n)
+    Ok(n)
 }
 
-fn is_header(line: &[u8], header: &[u8]) -> bool
-    ensures { result ≡ same_bytes line.now header.now }
-{
-    same(line, header)
-}
-
-// What is left of a text at a cursor: at most 65,536 bytes, the header, then a row in each line.
+// What is left of a text at a cursor: at most 65,536 bytes, the header, then a row in each line; how many rows, or the first bad line.
 pub fn read_text(
     text: &[u8],
     from: Cursor,
     header: &[u8],
     columns: Columns,
     numbers: &mut [u64],
-    names: &mut [u64],
-) -> Reading
+    names: &mut [Place],
+) -> Result<usize, BadLine>
     requires ready { Ready columns from }
     requires at_in_bounds { from.at ≤ length text.now }
     ensures { TextTaken header.now columns from.at from.line (drop from.at text.now)
         numbers.old names.old numbers.new names.new result }
 {
-    let at = from.at;
-    if TEXT_MOST < text.len() - at {
-        return Reading::BadLine(0);
+    if TEXT_MOST < text.len() - from.at {
+        return Err(BadLine(0));
     }
     let past = from.skip(Class::InLine, text);
-    let end = past.at;
-    if !is_header(&text[at..end], header) {
-        return Reading::BadLine(from.line);
+    if &text[from.at..past.at] != header {
+        return Err(BadLine(from.line));
     }
     read_rows(text, past.next_line(), columns, numbers, names)
 }

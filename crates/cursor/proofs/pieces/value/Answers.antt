@@ -1,25 +1,18 @@
--- `value` meets its contract. The loop's invariant: the value so far, followed by the digits left, is the value of all digits; it stays below
--- 10 to the number of digits read, so that nothing wraps. The measure is what is left.
-use mathlib.Core.Path.{◌≡◌, sym, ◌∙◌}
-use Prim.Native.Nat.{◌+◌, ◌-◌, suc}
-use native.Mathlib.Omega.{arith}
-use lib.ListN.{get_or}
+-- `value` meets its contract.
+use Rattle.std.proofs.Common.{◌∙◌, sym, arith, get_or, ◌-◌}
 use Rattle.cursor.proofs.DecimalLaws.{ten-more, decimal-more, decimal-over}
 use Rattle.cursor.proofs.pieces.value.Goals as goal
 
-pub loop-i-preserved : goal.loop-i-preserved
-loop-i-preserved c =
-    let a = c.args in
-    let l = c.loop-i in
-    let d = c.requires in
-    let t = c.loop-i-test.true in
-    let m = d.most l.i l.invariant.0 t in
-    let n = ten-more l.v (get_or a.s.now l.i 0 - 48) (l.i - a.at) l.invariant.1.1.0 (omega (arith, m)) in
-    let k : l.i + 1 - a.at ≡ suc (l.i - a.at) = omega (arith, l.invariant.0) in
-    (omega (arith, l.invariant.0), (omega (arith, t), (rw k n, sym (decimal-more a.s.now l.v l.i a.end t d.inside) ∙ l.invariant.1.1.1)))
+pub loop-b-preserved : goal.loop-b-preserved
+loop-b-preserved c =
+    let l = c.loop-b in
+    let w = c.args.digits.now in
+    let m = c.requires.most l.b-index c.loop-b-test.true in
+    rw c.from.ensures (
+      ten-more l.v (get_or w l.b-index 0 - 48) l.b-index l.invariant.0 (omega (arith, m)),
+      sym (decimal-more w l.v l.b-index c.loop-b-test.true) ∙ l.invariant.1,
+    )
 
 pub returns : goal.returns
 returns c =
-    let a = c.args in
-    let l = c.loop-i in
-    sym (decimal-over a.s.now l.v l.i a.end c.loop-i-test.false) ∙ l.invariant.1.1.1
+    sym (decimal-over c.args.digits.now c.loop-b.v c.loop-b.b-index c.loop-b-test.false) ∙ c.loop-b.invariant.1
