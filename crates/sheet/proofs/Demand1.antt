@@ -6,6 +6,7 @@
 --     room-exactly            ROOM exactly where the card is done and the lent buffer holds fewer bytes than it is printed in
 --     refusal-keeps-numbers, fits_whole, unfit-kept      what a lent buffer changes of that
 -- `fitted` of `sheet_of` is what the public entry's contract cites (specs/Sheet.antt).
+use Rattle.std.proofs.Common.{Ok, Err}
 use mathlib.Core.Path.{◌≡◌, refl, sym, ap, subst, ◌∙◌}
 use mathlib.Core.Bool.{true, false}
 use mathlib.Core.Logic.{◌⊎◌, inl, inr, ⊎_elim, ◌↔◌}
@@ -17,8 +18,8 @@ use lib.ListN.{length, get_or}
 use borrow.Author.Tests.{le-leb, lt-leb, eq-eqb, ne_eqb, eqb-true, eqb-false}
 use Rattle.fold.proofs.BoolLaws.{passes-or-fails, lt-or-le, zero-not-one}
 use Rattle.answers.specs.Answer.{given_by}
-use Rattle.text.specs.declared.Reading.{Reading}
-use Rattle.text.specs.declared.Reading.TheVariants.{BadLine, Rows}
+use Rattle.text.specs.Text.{Reading}
+use Rattle.text.specs.Text.{bad_line}
 use Rattle.text.specs.Grammar.{Row}
 use Rattle.list.specs.List.{ListText, reading, rows_of}
 use Rattle.list.proofs.ListTheorem.{line-0-exactly, gets-exactly, list-sound, list-complete}
@@ -30,7 +31,7 @@ use Rattle.sheet.proofs.WholeAnswers.{whole-no-text}
 use Rattle.sheet.proofs.WholeWay.{given-as-whole}
 
 module _ (s : List ℕ) where
-  bad-given : (line : ℕ) → reading s ≡ BadLine line → (sheet_of s).given ≡ 1 ∷ line ∷ 0 ∷ []
+  bad-given : (line : ℕ) → reading s ≡ bad_line line → (sheet_of s).given ≡ 1 ∷ line ∷ 0 ∷ []
   unfolding sheet_of sheet_by
   bad-given line e = rw e
 
@@ -39,17 +40,17 @@ module _ (s : List ℕ) where
   text-given = by-reading (reading s) refl
     where
       by-reading : (r : Reading) → reading s ≡ r → TextGiven s (sheet_of s).given
-      by-reading (BadLine line) e = subst (TextGiven s) (sym (bad-given line e)) (refused ((gets-exactly s (BadLine line)).0 e))
-      by-reading (Rows n) e =
+      by-reading (Err bad) e = subst (TextGiven s) (sym (bad-given bad.0 e)) (refused ((gets-exactly s (Err bad)).0 e))
+      by-reading (Ok n) e =
           ⊎_elim
-          (λ (l : 65536 < length s). absurd (let z : Rows n ≡ BadLine 0 = sym e ∙ (line-0-exactly s).1 l in zero-not-one cc))
+          (λ (l : 65536 < length s). absurd (let z : ◌≡◌ {A = Reading} (Ok n) (bad_line 0) = sym e ∙ (line-0-exactly s).1 l in zero-not-one cc))
           (λ (l : length s ≤ 65536).
           let t = (list-sound s n e).0 in
           subst (TextGiven s) (sym (given-as-whole s (rows_of s) l t)) (calculated (rows_of s) l t))
           (lt-or-le 65536 (length s))
 
   given-only : {g : List ℕ} → TextGiven s g → (sheet_of s).given ≡ g
-  given-only (refused {line} w) = bad-given line ((gets-exactly s (BadLine line)).1 w)
+  given-only (refused {line} w) = bad-given line ((gets-exactly s (bad_line line)).1 w)
   given-only (calculated rs l t) = given-as-whole s rs l t
 
   pub text-given-exactly : (g : List ℕ) → ((sheet_of s).given ≡ g) ↔ TextGiven s g
@@ -76,7 +77,7 @@ module _ (s : List ℕ) where
           (λ (l : length s ≤ 65536).
           inr
           (λ rs t.
-          let z : BadLine line ≡ Rows (length rs) = sym ((gets-exactly s (BadLine line)).1 w) ∙ (list-complete s rs l t).0 in
+          let z : ◌≡◌ {A = Reading} (bad_line line) (Ok (length rs)) = sym ((gets-exactly s (bad_line line)).1 w) ∙ (list-complete s rs l t).0 in
           zero-not-one cc))
           (lt-or-le 65536 (length s))
       from (calculated rs l t) e = absurd ((whole-no-text _).not-text e)

@@ -4,6 +4,7 @@
 --     card-read-again    a printed card is a text of the header name,pickup,delay,cutoff,law,multiplier and those columns, with the names and
 --                        numbers printed
 --     sheet-read-again   so is what is printed for the text of a list that is done, and the reader finds those rows in it
+use Rattle.std.proofs.Common.{Ok}
 use mathlib.Core.Path.{◌≡◌, refl, sym, ap, ◌∙◌}
 use mathlib.Core.Bool.{Bool, true}
 use mathlib.Core.Logic.{inr, ⊎_elim}
@@ -26,7 +27,6 @@ use Rattle.sides.proofs.SidesLaws.{setting-to}
 use Rattle.calculate.proofs.CardRange.{card-in-range, card-length}
 use Rattle.fold.proofs.BoolLaws.{lt-or-le}
 use Rattle.answers.specs.Answer.{given_by, done}
-use Rattle.text.specs.declared.Reading.TheVariants.{Rows}
 use Rattle.text.specs.Gets.{NoCrlf}
 use Rattle.text.specs.Grammar.{All, IsNumber, IsNameText, Row, Cells, Line, Lines, Text, rows, rows_as, all_names, numbers_in}
 use Rattle.text.specs.Text.{read_as}
@@ -150,9 +150,9 @@ module _ (s : List ℕ) (rs : List Row) (size : length s ≤ 65536) (t : ListTex
       (card-read-again (all_names rs) (whole_of rs).card (text-names t) (rw (names-count t) card-for))
 
   pub sheet-read-again :
-      (read_as card_header_line card_columns 1 (sheet_of s).text ≡ Rows (length rs)) ×
+      (read_as card_header_line card_columns 1 (sheet_of s).text ≡ Ok (length rs)) ×
       (rows_as card_columns (sheet_of s).text ≡ card_rows (all_names rs) (whole_of rs).card)
   sheet-read-again =
       let short : length (sheet_of s).text ≤ 65536 = omega (arith, sheet-short s) in
       let z = text-complete card_header_line card_columns header-one-line 1 (sheet_of s).text (card_rows (all_names rs) (whole_of rs).card) short card-text in
-      (z.0 ∙ ap Rows (card-rows-count (all_names rs) (whole_of rs).card ∙ names-count t), z.1)
+      (z.0 ∙ ap (λ (n : ℕ). Ok n) (card-rows-count (all_names rs) (whole_of rs).card ∙ names-count t), z.1)

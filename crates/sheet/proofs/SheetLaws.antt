@@ -1,19 +1,21 @@
 -- What is printed for a text is what the printers leave, one law for each way that the text goes.
-use mathlib.Core.Path.{◌≡◌, refl, sym, ap, ap₂, ◌∙◌}
+use Rattle.std.proofs.Common.{Ok, Err}
+use Rattle.cursor.specs.declared.Place.{Place}
+use Rattle.std.specs.List.{list_all}
+use mathlib.Core.Path.{◌≡◌, refl, sym, ap, ap₂, ◌∙◌, subst}
 use mathlib.Core.Bool.{true}
-use mathlib.Core.List.{List, ◌∷◌, ◌++◌}
-use Prim.Native.Nat.{ℕ, zero, suc, ◌+◌, ◌-◌, ◌*◌, ◌/◌, ◌≤◌, ◌<◌}
+use mathlib.Core.List.{List, [], ◌∷◌, ◌++◌}
+use Prim.Native.Nat.{ℕ, suc, ◌-◌, ◌*◌, ◌/◌, ◌≤◌, ◌<◌}
 use native.Mathlib.Omega.{arith}
-use lib.ListN.{length, get_or, take, drop, get_or-append}
-use lib.Seq.{paste, take_at, drop-append-le, length-take-le}
+use lib.ListN.{length, get_or, take, drop}
+use lib.Seq.{paste, take_all, take_at, length-take-le}
 use borrow.Author.Tests.{le-leb, lt-leb, eq-eqb, ne_eqb}
 use Rattle.layout.specs.Counts.{field_count, column_count, card_most, rows_most}
 use Rattle.fold.proofs.BoolLaws.{and_both}
-use Rattle.fold.proofs.FoldLaws.{every_of}
-use Rattle.answers.specs.declared.Answer.TheVariants as answer
+use Rattle.answers.specs.declared.Refusal.TheVariants as refusal
 use Rattle.answers.specs.Answer.{given_by}
 use Rattle.rows.proofs.TestLaws.{size-over}
-use Rattle.text.specs.declared.Reading.TheVariants.{BadLine, Rows}
+use Rattle.text.specs.Text.{bad_line}
 use Rattle.cursor.specs.Names.{name_at_place, names_at}
 use Rattle.list.specs.List.{reading, row_numbers, row_places}
 use Rattle.print.specs.Card.{header_size, line_most, place_right, printable, card_printed, refusal_most, refusal_printed, Printed}
@@ -30,31 +32,38 @@ use Rattle.text.proofs.StandLaws.{PlaceInside}
 use Rattle.list.proofs.PlaceLaws.{RowsStand, rows-stand}
 
 -- names read from the front of a buffer are those of the front
-names-front : (s : List ℕ) (n : ℕ) (ps rest : List ℕ) → n * 2 ≤ length ps → names_at s n (ps ++ rest) ≡ names_at s n ps
-unfolding names_at name_at_place
-names-front s zero ps rest h = refl
-names-front s (suc n) ps rest h =
-    ap₂ ◌∷◌
-    (ap₂ (λ (a b : ℕ). take b (drop a s)) (get_or-append ps rest 0 0 (omega arith)) (get_or-append ps rest 0 1 (omega arith)))
-    (rw (drop-append-le 2 ps rest (omega arith)) (names-front s n (drop 2 ps) rest (omega (arith, lib.ListN.length-drop 2 ps))))
+names-front : (s : List ℕ) (ps rest : List Place) → names_at s (length ps) (ps ++ rest) ≡ names_at s (length ps) ps
+unfolding names_at
+names-front s [] rest = refl
+names-front s (p ∷ ps) rest = ap (λ (names : List (List ℕ)). name_at_place s p ∷ names) (names-front s ps rest)
 
-right-front : (size : ℕ) (ps rest : List ℕ) (k : ℕ) → k * 2 + 1 < length ps → PlaceInside size ps k → place_right size (ps ++ rest) k ≡ true
+right-place : (size : ℕ) (p : Place) → PlaceInside size p → place_right size p ≡ true
 unfolding place_right
-right-front size ps rest k h p =
-    rw (get_or-append ps rest 0 (k * 2) (omega arith), get_or-append ps rest 0 (k * 2 + 1) h)
-    (let i = p.inside in
-    and_both
-    (and_both (le-leb _ _ p.short) (le-leb (get_or ps (k * 2) 0) size (omega arith)))
-    (le-leb (get_or ps (k * 2 + 1) 0) (size - get_or ps (k * 2) 0) (omega arith)))
+right-place size p h =
+    let i = h.inside in
+    and_both (and_both (le-leb _ _ h.short) (le-leb p.start size (omega arith))) (le-leb p.size (size - p.start) (omega arith))
+
+right-places :
+    (size : ℕ) (ps : List Place) → ((k : ℕ) → k < length ps → (d : Place) → PlaceInside size (get_or ps k d)) → list_all (place_right size) ps ≡ true
+right-places size [] h = refl
+right-places size (p ∷ ps) h =
+    and_both (right-place size p (h 0 (omega arith) p)) (right-places size ps (λ k l d. h (suc k) (omega arith) d))
+
+-- so do the places of all rows that a text was read to have
+pub all-right : (s : List ℕ) (n : ℕ) → reading s ≡ Ok n → list_all (place_right (length s)) (take n (row_places s)) ≡ true
+all-right s n e =
+    let stand = rows-stand s n e in
+    rw (take_all n (row_places s) (omega (arith, stand.places-long)))
+    (right-places (length s) (row_places s) (λ k h d. stand.inside k (omega (arith, stand.places-long)) d))
 
 -- more than 256 rows are COUNT
-pub many-count : (s : List ℕ) (n : ℕ) → reading s ≡ Rows n → 256 < n → (whole (row_numbers s) blank_card).answer ≡ answer.Count
+pub many-count : (s : List ℕ) (n : ℕ) → reading s ≡ Ok n → 256 < n → (whole (row_numbers s) blank_card).answer ≡ Err refusal.Count
 many-count s n e h =
     let long = (rows-stand s n e).numbers-long in
     let size = size-over (length (row_numbers s)) (length blank_card) (omega arith) (omega arith) (omega arith) in
-    sym (answered-size (row_numbers s) blank_card _ answer.Count refl (sym size)).answer
+    sym (answered-size (row_numbers s) blank_card _ refusal.Count refl (sym size)).answer
 
-module _ (s list names : List ℕ) (n room : ℕ) (r : RowsReady s list names n room) where
+module _ (s list : List ℕ) (names : List Place) (n room : ℕ) (r : RowsReady s list names n room) where
   stand : RowsStand s n
   stand = rows-stand s n r.read
 
@@ -63,7 +72,7 @@ module _ (s list names : List ℕ) (n room : ℕ) (r : RowsReady s list names n 
     list-is = r.numbers ∙ rw stand.read (blocks-front rows_most field_count n (row_numbers s) r.before-list few stand.numbers-long)
 
     names-is : names ≡ row_places s ++ drop (length (row_places s)) r.before-names
-    names-is = r.places ∙ rw stand.read (blocks-front rows_most 2 n (row_places s) r.before-names few stand.places-long)
+    names-is = r.places ∙ rw stand.read (blocks-front rows_most 1 n (row_places s) r.before-names few (omega (arith, stand.places-long)))
 
     pub numbers-front : take (n * field_count) list ≡ row_numbers s
     numbers-front = ap (take (n * field_count)) list-is ∙ take_at (row_numbers s) _ (n * field_count) stand.numbers-long
@@ -73,7 +82,11 @@ module _ (s list names : List ℕ) (n room : ℕ) (r : RowsReady s list names n 
 
     all-names : names_at s n names ≡ names_of s
     unfolding names_of
-    all-names = ap (names_at s n) names-is ∙ names-front s n (row_places s) _ (omega (arith, stand.places-long)) ∙ stand.names
+    all-names =
+        ap (names_at s n) names-is ∙
+        subst (λ (m : ℕ). names_at s m (row_places s ++ drop (length (row_places s)) r.before-names) ≡ names_at s m (row_places s)) stand.places-long
+        (names-front s (row_places s) (drop (length (row_places s)) r.before-names)) ∙
+        stand.names
 
     can-print : (card : List ℕ) → length card ≡ card_most → printable (length s) names (length card) n room ≡ true
     unfolding printable
@@ -83,10 +96,15 @@ module _ (s list names : List ℕ) (n room : ℕ) (r : RowsReady s list names n 
         (and_both
         (and_both
         (and_both (le-leb header_size room (omega arith)) (le-leb n ((room - header_size) / line_most) (omega arith)))
-        (le-leb n (length names / 2) (omega (arith, r.names-room))))
+        (le-leb n (length names) (omega (arith, r.names-room))))
         (le-leb n (length card / column_count) (omega arith)))
-        (every_of (place_right (length s) names) n
-        (λ k h. rw names-is (right-front (length s) (row_places s) _ k (omega (arith, stand.places-long)) (stand.inside k h))))
+        (ap (list_all (place_right (length s))) front ∙ all-right s n r.read)
+      where
+        front : take n names ≡ take n (row_places s)
+        front =
+            ap (take n) names-is ∙
+            take_at (row_places s) (drop (length (row_places s)) r.before-names) n stand.places-long ∙
+            sym (take_all n (row_places s) (omega (arith, stand.places-long)))
 
     -- the whole calculation of the numbers read
     module _ (g card : List ℕ) (z : Gave (whole (take (n * field_count) list) blank_card) g card) where
@@ -117,7 +135,7 @@ module _ (s list names : List ℕ) (n room : ℕ) (r : RowsReady s list names n 
 
   -- more than 256 rows
   pub many-filled :
-      (g out out' g' : List ℕ) (bytes : ℕ) → g ≡ given_by answer.Count → 256 < n →
+      (g out out' g' : List ℕ) (bytes : ℕ) → g ≡ given_by (Err refusal.Count) → 256 < n →
       Filled (refused_with g) out g' bytes out' → Filled (sheet_of s) out g' bytes out'
   unfolding sheet_of sheet_by sheet_with
   many-filled g out out' g' bytes q h f =
@@ -125,7 +143,7 @@ module _ (s list names : List ℕ) (n room : ℕ) (r : RowsReady s list names n 
 
 -- a bad line
 pub bad-filled :
-    (s : List ℕ) (line : ℕ) (g out out' g' : List ℕ) (bytes : ℕ) → reading s ≡ BadLine line → g ≡ given_by (answer.Text line) →
+    (s : List ℕ) (line : ℕ) (g out out' g' : List ℕ) (bytes : ℕ) → reading s ≡ bad_line line → g ≡ given_by (Err (refusal.Text line)) →
     Filled (refused_with g) out g' bytes out' → Filled (sheet_of s) out g' bytes out'
 unfolding sheet_of sheet_by
 bad-filled s line g out out' g' bytes e q f = rw e (rw q at f)
@@ -151,7 +169,7 @@ module _ (z : Sheet) (space space' g : List ℕ) (bytes : ℕ) (f : Filled z spa
       (record { numbers = f.numbers; printed = wrote-printed out z.text out' bytes (omega arith) w (record { bytes = q; end = omega arith }) })
 
   module _ (h : length out < bytes) where
-    pub card-unfit : (g' : List ℕ) → get_or g 0 0 ≡ 0 → g' ≡ given_by answer.Room → Filled (fitted (length out) z) out g' 0 out
+    pub card-unfit : (g' : List ℕ) → get_or g 0 0 ≡ 0 → g' ≡ given_by (Err refusal.Room) → Filled (fitted (length out) z) out g' 0 out
     unfolding fitted
     card-unfit g' e q =
         let k = f.printed.count in

@@ -1,6 +1,6 @@
 -- Which numbers the whole calculation gives a text's rows [01 §4]: 0 where it is done, never TEXT, and never ROOM, as the card has room for 256 rows.
 use Rattle.answers.specs.declared.Refusal.TheVariants.{Text, Count, Room, Field, Tree, Unsettled, Study, Card, Edit, Input, Slope}
-use Rattle.std.proofs.Common.{Ok}
+use Rattle.std.specs.Prelude.{Ok, Err}
 use mathlib.Core.Path.{◌≡◌, refl}
 use mathlib.Core.Bool.{true, false≢true}
 use mathlib.Core.List.{List}
@@ -10,7 +10,7 @@ use lib.Dec.{lit≤}
 use lib.ListN.{length, get_or}
 use Rattle.fold.proofs.BoolLaws.{not-both}
 use Rattle.answers.specs.declared.Reason.TheVariants.{Pickup}
-use Rattle.answers.specs.Answer.{given_by, Answer, done}
+use Rattle.answers.specs.Answer.{given_by, Answer, done as all_well}
 use Rattle.answers.proofs.AnswerLaws.{unsettled-above, unsettled-not-0}
 use Rattle.layout.specs.Counts.{card_most}
 use Rattle.layout.specs.View.{View}
@@ -23,19 +23,19 @@ use Rattle.calculate.proofs.Demand1.{every-list-gets}
 use Rattle.sheet.specs.Sheet.{blank_card, done}
 
 -- an answer with the number 0 is done
-pub given-done : (a : Answer) → done (given_by a) ≡ true → a ≡ done
+pub given-done : (a : Answer) → done (given_by a) ≡ true → a ≡ all_well
 given-done (Ok _) h = refl
-given-done (Text line) h = absurd (false≢true h)
-given-done Count h = absurd (false≢true h)
-given-done Room h = absurd (false≢true h)
-given-done (Field row k) h = absurd (false≢true h)
-given-done (Tree row) h = absurd (false≢true h)
-given-done (Unsettled row why) h = absurd (not-both h (unsettled-not-0 row why))
-given-done (Study place) h = absurd (false≢true h)
-given-done (Card row) h = absurd (false≢true h)
-given-done Edit h = absurd (false≢true h)
-given-done (Input place) h = absurd (false≢true h)
-given-done Slope h = absurd (false≢true h)
+given-done (Err (Text line)) h = absurd (false≢true h)
+given-done (Err Count) h = absurd (false≢true h)
+given-done (Err Room) h = absurd (false≢true h)
+given-done (Err (Field row k)) h = absurd (false≢true h)
+given-done (Err (Tree row)) h = absurd (false≢true h)
+given-done (Err (Unsettled row why)) h = absurd (not-both h (unsettled-not-0 row why))
+given-done (Err (Study place)) h = absurd (false≢true h)
+given-done (Err (Card row)) h = absurd (false≢true h)
+given-done (Err Edit) h = absurd (false≢true h)
+given-done (Err (Input place)) h = absurd (false≢true h)
+given-done (Err Slope) h = absurd (false≢true h)
 
 pub blank-room : card_most ≤ length blank_card
 unfolding blank_card
@@ -60,8 +60,8 @@ whole-no-text l = of-gets ((every-list-gets l blank_card (whole l blank_card).an
     of-gets : {a : Answer} → Gets l blank_card a → NoText a
     of-gets (Gets.COUNT n) = record { not-text = λ e. omega arith; not-room = λ e. omega arith }
     of-gets (Gets.ROOM s n) = absurd (n (omega (arith, size-rows l s, blank-room)))
-    of-gets (Gets.FIELD s r i k f) = above-room (Field (i + 1) (k + 1)) (omega arith)
-    of-gets (Gets.TREE s r a i f) = above-room (Tree (i + 1)) (omega arith)
+    of-gets (Gets.FIELD s r i k f) = above-room (Err (Field (i + 1) (k + 1))) (omega arith)
+    of-gets (Gets.TREE s r a i f) = above-room (Err (Tree (i + 1))) (omega arith)
     of-gets (Gets.UNSETTLED {a = x} s r a b z) = above-room x (refused-above z)
     of-gets (Gets.DONE s r a b k m) = record { not-text = λ e. omega arith; not-room = λ e. omega arith }
 

@@ -3,6 +3,7 @@
 --     prints-the-card     where that is done, what is printed is its card, with the rows' names as they stand in the text
 --     prints-a-refusal    otherwise its number, place and field
 --     count-exactly       it is COUNT exactly where there are 0 rows, or more than 256
+use Rattle.std.proofs.Common.{Ok, Err}
 use mathlib.Core.Path.{◌≡◌, refl, sym, ap, ◌∙◌}
 use mathlib.Core.Bool.{Bool, true, false, cond}
 use mathlib.Core.Logic.{◌⊎◌, inl, inr, ⊎_elim, ◌↔◌}
@@ -11,11 +12,10 @@ use Prim.Native.Nat.{ℕ, ◌*◌, ◌≤◌, ◌<◌}
 use native.Mathlib.Omega.{arith}
 use lib.ListN.{length, get_or}
 use Rattle.fold.proofs.BoolLaws.{fails, lt-or-le}
-use Rattle.answers.specs.declared.Answer.TheVariants as answer
-use Rattle.answers.specs.Answer.{given_by}
+use Rattle.answers.specs.declared.Refusal.TheVariants as refusal
+use Rattle.answers.specs.Answer.{given_by, done as all_well}
 use Rattle.layout.specs.Counts.{field_count}
 use Rattle.rows.specs.InRange.{RightSize}
-use Rattle.text.specs.declared.Reading.TheVariants.{Rows}
 use Rattle.text.specs.Grammar.{Row, all_names, numbers_in}
 use Rattle.text.proofs.GrammarTheorem.{numbers-in}
 use Rattle.list.specs.List.{ListText, list_columns, reading, rows_of, row_numbers}
@@ -37,7 +37,7 @@ with-given names card given = by-test (done given)
     by-test false = refl
 
 module _ (s : List ℕ) (rs : List Row) (size : length s ≤ 65536) (t : ListText s rs) where
-  reads : reading s ≡ Rows (length rs)
+  reads : reading s ≡ Ok (length rs)
   reads = (list-complete s rs size t).0
 
   the-rows : rows_of s ≡ rs
@@ -53,11 +53,11 @@ module _ (s : List ℕ) (rs : List Row) (size : length s ≤ 65536) (t : ListTex
   pub given-as-whole : (sheet_of s).given ≡ given_by (whole_of rs).answer
   given-as-whole = ap (λ (z : Sheet). z.given) the-sheet ∙ with-given (all_names rs) (whole_of rs).card (given_by (whole_of rs).answer)
 
-  pub prints-the-card : (whole_of rs).answer ≡ answer.Done → (sheet_of s).text ≡ card_text (all_names rs) (whole_of rs).card
+  pub prints-the-card : (whole_of rs).answer ≡ all_well → (sheet_of s).text ≡ card_text (all_names rs) (whole_of rs).card
   unfolding sheet_with
   prints-the-card e = ap (λ (z : Sheet). z.text) the-sheet ∙ rw e
 
-  pub prints-a-refusal : ((whole_of rs).answer ≡ answer.Done → ⊥) → (sheet_of s).text ≡ refusal_text (given_by (whole_of rs).answer)
+  pub prints-a-refusal : ((whole_of rs).answer ≡ all_well → ⊥) → (sheet_of s).text ≡ refusal_text (given_by (whole_of rs).answer)
   unfolding sheet_with
   prints-a-refusal n =
       ap (λ (z : Sheet). z.text) the-sheet ∙ rw (fails (done (given_by (whole_of rs).answer)) (λ h. n (given-done (whole_of rs).answer h)))
@@ -70,7 +70,7 @@ module _ (s : List ℕ) (rs : List Row) (size : length s ≤ 65536) (t : ListTex
     λ e.
         wrong_size
         (count-size ((every-list-gets (numbers_in rs) blank_card (whole_of rs).answer).0 refl) (ap (λ (g : List ℕ). get_or g 0 0) (sym given-as-whole ∙ e))),
-    λ h. given-as-whole ∙ ap given_by ((every-list-gets (numbers_in rs) blank_card answer.Count).1 (Gets.COUNT (λ r. not_right h r))),
+    λ h. given-as-whole ∙ ap given_by ((every-list-gets (numbers_in rs) blank_card (Err refusal.Count)).1 (Gets.COUNT (λ r. not_right h r))),
   )
     where
       not_right : (length rs ≡ 0) ⊎ (256 < length rs) → RightSize (numbers_in rs) → ⊥

@@ -2,10 +2,9 @@
 -- the number. Definitions only.
 use Rattle.std.specs.Prelude.{List, [], ◌∷◌, ℕ, ◌≤◌, length}
 use Rattle.answers.specs.Answer.{given_by}
-use Rattle.text.specs.declared.Reading.TheVariants.{BadLine}
 use Rattle.text.specs.Gets.{TextGets}
 use Rattle.text.specs.Grammar.{Row, numbers_in}
-use Rattle.text.specs.Text.{text_most}
+use Rattle.text.specs.Text.{text_most, bad_line}
 use Rattle.list.specs.Header.{header}
 use Rattle.list.specs.List.{list_columns, ListText}
 use Rattle.calculate.specs.Whole.{Result, whole}
@@ -17,7 +16,7 @@ whole_of rs = whole (numbers_in rs) blank_card
 
 -- the line with which the text s is refused: 0 where it is too long, 1 where its first line is no header, or the first bad line
 abbrev pub RefusedLine : List ℕ → ℕ → Type 0
-RefusedLine s line = TextGets header list_columns 1 s (BadLine line)
+RefusedLine s line = TextGets header list_columns 1 s (bad_line line)
 
 -- the numbers that a text is given
 pub data TextGiven (s : List ℕ) : List ℕ → Type 0 where

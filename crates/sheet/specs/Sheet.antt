@@ -1,11 +1,10 @@
 -- [01 §6] From the text of a list to the printed card or refusal. TEXT comes before all other refusals, its size test first.
 -- Definitions only.
-use Rattle.std.specs.Prelude.{◌≡◌, Bool, cond, List, [], ℕ, ◌+◌, ◌*◌, leb, eqb, length, get_or, replicate}
+use Rattle.std.specs.Prelude.{◌≡◌, Bool, cond, List, [], ℕ, ◌+◌, ◌*◌, leb, eqb, length, get_or, replicate, Ok, Err}
 use Rattle.layout.specs.Counts.{rows_most, card_most}
-use Rattle.answers.specs.declared.Answer.TheVariants as answer
+use Rattle.answers.specs.declared.Refusal.TheVariants as refusal
 use Rattle.answers.specs.Answer.{given_by}
-use Rattle.text.specs.declared.Reading.{Reading}
-use Rattle.text.specs.declared.Reading.TheVariants.{BadLine, Rows}
+use Rattle.text.specs.Text.{Reading}
 use Rattle.text.specs.Grammar.{all_names}
 use Rattle.list.specs.List.{reading, row_numbers, rows_of}
 use Rattle.print.specs.Card.{header_size, line_most, card_text, refusal_text, Printed}
@@ -37,8 +36,8 @@ sheet_with names card given = cond (done given) (record { given = given; text = 
 
 -- what is given for the reading of a text
 unfoldable pub sheet_by : List ℕ → Reading → Sheet
-sheet_by s (BadLine line) = refused_with (given_by (answer.Text line))
-sheet_by s (Rows n) = sheet_with (names_of s) (whole (row_numbers s) blank_card).card (given_by (whole (row_numbers s) blank_card).answer)
+sheet_by s (Err bad) = refused_with (given_by (Err (refusal.Text bad.0)))
+sheet_by s (Ok n) = sheet_with (names_of s) (whole (row_numbers s) blank_card).card (given_by (whole (row_numbers s) blank_card).answer)
 
 unfoldable pub sheet_of : List ℕ → Sheet
 sheet_of s = sheet_by s (reading s)
@@ -47,7 +46,7 @@ sheet_of s = sheet_by s (reading s)
 unfoldable pub fitted : ℕ → Sheet → Sheet
 fitted room z =
     cond (leb (length z.text) room) z
-    (record { given = cond (done z.given) (given_by answer.Room) z.given; text = [] })
+    (record { given = cond (done z.given) (given_by (Err refusal.Room)) z.given; text = [] })
 
 -- the most bytes that are printed: the card's header and 256 of its longest lines
 abbrev pub sheet_most : ℕ

@@ -5,17 +5,19 @@ ghost use Rattle.std.specs.Prelude.{◌≤◌, length};
 ghost use Rattle.sheet.specs.Sheet.{sheet_most, refused_with, sheet_of, fitted, Filled};
 ghost use Rattle.sheet.specs.Ready.{RowsReady};
 
-use answers::{Answer, NUMBERS, numbers};
-use blocks::put_bytes;
+use answers::{NUMBERS, Refusal, numbers};
+use blocks::put;
 use calculate::whole_calculation;
+use cursor::Place;
 use layout::{CARD, FIELDS, LIST, ROWS};
 use list::read_list;
 use print::{HEADER, LINE_MOST, print_card, print_refusal};
-use text::Reading;
+use text::BadLine;
 
-// Room for the names' places of the longest list, and for what is printed of its card.
-const NAMES: usize = ROWS * 2;
+// A place of no name.
+const NOWHERE: Place = Place { start: 0, size: 0 };
 
+// Room for what is printed of the longest list's card.
 pub const SHEET_MOST: usize = HEADER + ROWS * LINE_MOST;
 
 // What is given for a text: the answer's numbers, and how many bytes are printed.
@@ -37,12 +39,12 @@ fn refuse(given: [u64; NUMBERS], out: &mut [u8]) -> Page
 }
 
 // Prints the card, or the refusal, of n rows that were read.
-fn print_rows(text: &[u8], list: &[u64], names: &[u64], n: usize, out: &mut [u8]) -> Page
+fn print_rows(text: &[u8], list: &[u64], names: &[Place], n: usize, out: &mut [u8]) -> Page
     requires { RowsReady text.now list.now names.now n (length out.old) }
     ensures { Filled (sheet_of text.now) out.old result.numbers result.bytes out.new }
 {
     if ROWS < n {
-        return refuse(numbers(Answer::Count), out);
+        return refuse(numbers(Err(Refusal::Count)), out);
     }
     let mut card = [0u64; CARD];
     let end = n * FIELDS;
@@ -63,11 +65,10 @@ fn print_text(text: &[u8], out: &mut [u8]) -> Page
     ensures { Filled (sheet_of text.now) out.old result.numbers result.bytes out.new }
 {
     let mut list = [0u64; LIST];
-    let mut names = [0u64; NAMES];
-    let read = read_list(text, &mut list, &mut names);
-    match read {
-        Reading::BadLine(line) => refuse(numbers(Answer::Text(line)), out),
-        Reading::Rows(n) => print_rows(text, &list, &names, n, out),
+    let mut names = [NOWHERE; ROWS];
+    match read_list(text, &mut list, &mut names) {
+        Err(BadLine(line)) => refuse(numbers(Err(Refusal::Text(line))), out),
+        Ok(n) => print_rows(text, &list, &names, n, out),
     }
 }
 
@@ -80,12 +81,12 @@ pub fn sheet(text: &[u8], out: &mut [u8]) -> Page
     let given = page.numbers;
     let bytes = page.bytes;
     if bytes <= out.len() {
-        put_bytes(out, 0, &space[..bytes]);
+        put(out, 0, &space[..bytes]);
         return page;
     }
     if given[0] == 0 {
         return Page {
-            numbers: numbers(Answer::Room),
+            numbers: numbers(Err(Refusal::Room)),
             bytes: 0,
         };
     }

@@ -23,20 +23,7 @@ between-exactly a x b = (
 )
 
 module _ (law m x : ℕ) where
-  -- the tests one after the other
-  pub no-curve : curve_right law ≡ false → false ≡ may_be_asked law m x
-  unfolding may_be_asked
-  no-curve e = sym (λ t. e t && (multiple_right m && multiplier_right x))
-
-  pub no-multiple : curve_right law ≡ true → multiple_right m ≡ false → false ≡ may_be_asked law m x
-  unfolding may_be_asked
-  no-multiple e f = sym (λ t. e t && (f t && multiplier_right x))
-
-  pub multiplier-decides : curve_right law ≡ true → multiple_right m ≡ true → multiplier_right x ≡ may_be_asked law m x
-  unfolding may_be_asked
-  multiplier-decides e f = sym (λ t. e t && (f t && multiplier_right x))
-
-  -- and what they say
+  -- what the tests say
   pub asked-exactly : (may_be_asked law m x ≡ true) ↔ Asked law m x
   unfolding may_be_asked
   asked-exactly = (

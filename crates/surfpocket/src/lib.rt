@@ -9,7 +9,7 @@ ghost use Rattle.calculate.specs.Ready.{Gave};
 ghost use Rattle.change.specs.Ready.{Gave as GaveBoth};
 ghost use Rattle.surfpocket.specs.Differentials.{handed_card, differential_for};
 ghost use Rattle.surfpocket.specs.Studies.{unit_of, handed, study_of};
-ghost use Rattle.surfpocket.specs.Times.{between, may_be_asked, time_asked};
+ghost use Rattle.surfpocket.specs.Times.{may_be_asked, time_asked};
 ghost use Rattle.surfpocket.specs.Version.{version};
 
 use answers::NUMBERS;
@@ -106,35 +106,31 @@ pub extern "C" fn surfpocket_replace(
 }
 
 // A single in the unit of that number, if there is one.
-#[derive(Clone, Copy)]
-enum InUnit {
-    Known(Quantity),
-    Unknown,
-}
-
-fn in_unit(unit: u64, x: f32) -> InUnit
+fn in_unit(unit: u64, x: f32) -> Option<Quantity>
     ensures { result ≡ unit_of unit x }
 {
     match unit {
-        1 => InUnit::Known(Quantity::Amperes(x)),
-        2 => InUnit::Known(Quantity::Kiloamperes(x)),
-        3 => InUnit::Known(Quantity::PerUnit(x)),
-        _ => InUnit::Unknown,
+        1 => Some(Quantity::Amperes(x)),
+        2 => Some(Quantity::Kiloamperes(x)),
+        3 => Some(Quantity::PerUnit(x)),
+        _ => None,
     }
 }
 
-fn hand_on(c: Converted) -> SurfpocketStudy
-    ensures { result ≡ handed c }
-{
-    SurfpocketStudy {
-        number: c.number,
-        place: c.place,
-        greatest: c.greatest,
-        least: c.least,
-        greatest_lower: c.sides.greatest.lower,
-        greatest_upper: c.sides.greatest.upper,
-        least_lower: c.sides.least.lower,
-        least_upper: c.sides.least.upper,
+impl From<Converted> for SurfpocketStudy {
+    ghost from_gives = { λ c s. s ≡ handed c };
+
+    fn from(c: Converted) -> SurfpocketStudy {
+        SurfpocketStudy {
+            number: c.number,
+            place: c.place,
+            greatest: c.greatest,
+            least: c.least,
+            greatest_lower: c.sides.greatest.lower,
+            greatest_upper: c.sides.greatest.upper,
+            least_lower: c.sides.least.lower,
+            least_upper: c.sides.least.upper,
+        }
     }
 }
 
@@ -150,13 +146,10 @@ pub extern "C" fn surfpocket_study(
 ) -> SurfpocketStudy
     ensures { result ≡ study_of (unit_of greatest_unit greatest) greatest_rated (unit_of least_unit least) least_rated }
 {
-    let InUnit::Known(g) = in_unit(greatest_unit, greatest) else {
-        return hand_on(refused(0));
+    let (Some(g), Some(l)) = (in_unit(greatest_unit, greatest), in_unit(least_unit, least)) else {
+        return refused(0).into();
     };
-    let InUnit::Known(l) = in_unit(least_unit, least) else {
-        return hand_on(refused(0));
-    };
-    hand_on(convert(Study {
+    convert(Study {
         greatest: Reading {
             quantity: g,
             rated: greatest_rated,
@@ -165,21 +158,24 @@ pub extern "C" fn surfpocket_study(
             quantity: l,
             rated: least_rated,
         },
-    }))
+    })
+    .into()
 }
 
-fn hand_on_card(g: Given) -> SurfpocketDifferential
-    ensures { result ≡ handed_card g }
-{
-    SurfpocketDifferential {
-        number: g.number,
-        place: g.place,
-        start: g.start,
-        bend: g.bend,
-        slope: g.slope,
-        blocking: g.blocking,
-        cutoff: g.cutoff,
-        verdict: g.verdict,
+impl From<Given> for SurfpocketDifferential {
+    ghost from_gives = { λ g d. d ≡ handed_card g };
+
+    fn from(g: Given) -> SurfpocketDifferential {
+        SurfpocketDifferential {
+            number: g.number,
+            place: g.place,
+            start: g.start,
+            bend: g.bend,
+            slope: g.slope,
+            blocking: g.blocking,
+            cutoff: g.cutoff,
+            verdict: g.verdict,
+        }
     }
 }
 
@@ -197,7 +193,7 @@ pub extern "C" fn surfpocket_differential(
 ) -> SurfpocketDifferential
     ensures { result ≡ differential_for start blocking cutoff through first second differential restraint }
 {
-    hand_on_card(differential_card(Inputs {
+    differential_card(Inputs {
         start,
         blocking,
         cutoff,
@@ -206,25 +202,15 @@ pub extern "C" fn surfpocket_differential(
         second,
         differential,
         restraint,
-    }))
+    })
+    .into()
 }
 
-fn between(least: u64, x: u64, greatest: u64) -> bool
-    ensures { result ≡ between least x greatest }
-{
-    least <= x && x <= greatest
-}
-
+#[tactic(auto, unfolding(crate::specs::Times::may_be_asked, crate::specs::Times::between))]
 fn may_be_asked(law: u64, multiple: u64, multiplier: u64) -> bool
     ensures { result ≡ may_be_asked law multiple multiplier }
 {
-    if !between(1, law, 2) {
-        return false;
-    }
-    if !between(1001, multiple, 20000) {
-        return false;
-    }
-    between(10, multiplier, 1500)
+    (1..=2).contains(&law) && (1001..=20000).contains(&multiple) && (10..=1500).contains(&multiplier)
 }
 
 // The time in ms of curve B (1) or C (2) at a multiple of the pickup and with a multiplier, both in thousandths [02 §3]; 0 where there is none.

@@ -4,11 +4,11 @@ use Rattle.sheet.proofs.SheetLaws.{bad-filled}
 use Rattle.sheet.proofs.print_text.Goals as goal
 
 pub print_rows-requires : goal.print_rows-requires
-print_rows-requires c = let t = c.read_list-read.ensures in
+print_rows-requires c = let t = c.read_list.ensures in
     record {
-      read = sym t.answer ∙ c.in-Rows.is;
-      list-room = c.read_list-read.auto.list;
-      names-room = c.read_list-read.auto.names;
+      read = sym t.answer ∙ c.in-Ok.is;
+      list-room = c.read_list.auto.list;
+      names-room = c.read_list.auto.names;
       before-list = _;
       before-names = _;
       numbers = t.numbers;
@@ -16,6 +16,6 @@ print_rows-requires c = let t = c.read_list-read.ensures in
       out-room = c.requires;
     }
 
-pub returns-in-BadLine : goal.returns-in-BadLine
-returns-in-BadLine c = bad-filled _ _ _ _ _ _ _ (sym c.read_list-read.ensures.answer ∙ c.in-BadLine.is) c.numbers.ensures
+pub returns-in-Err : goal.returns-in-Err
+returns-in-Err c = bad-filled _ _ _ _ _ _ _ (sym c.read_list.ensures.answer ∙ c.in-Err.is) c.numbers.ensures
     c.refuse.ensures
