@@ -15,7 +15,8 @@ pub fn multiple(x: u64, y: u64) -> u64
     (1000 * x).checked_div(y).unwrap_or(0).min(20000)
 }
 
-// A curve gives no time at this M. A law is the number that list and card have: the theorems and surfpocket_time are over every number.
+// A curve gives no time at this M. Law and M are plain numbers, as list, card and surfpocket_time have them: `stalls-exactly` and the other
+// theorems are over every one, and M's bound stands in clauses.
 #[tactic(auto, unfolding(crate::specs::Curve::stalls))]
 pub fn stalls(law: u64, m: u64) -> bool
     ensures { result ≡ stalls law m }

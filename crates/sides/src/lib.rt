@@ -15,8 +15,8 @@ pub struct Primary(pub u64);
 #[derive(Clone, Copy, PartialEq, Eq)]
 pub struct Secondary(pub u64);
 
-// The rated primary and the rated secondary in A, 0 in both where a row has no ratio: no Option, as `Rated`, `scale` and what is said over
-// them are of the list's two numbers.
+// The rated primary and the rated secondary in A, 0 in both where a row has no ratio. No Option, and `Rated` no invariant of the type: `scale`
+// and the theorems are over the list's two numbers, and `rows` makes ratios that it is yet to test.
 #[derive(Clone, Copy)]
 pub struct Ratio {
     pub primary: u64,
