@@ -210,7 +210,9 @@ pub extern "C" fn surfpocket_differential(
 fn may_be_asked(law: u64, multiple: u64, multiplier: u64) -> bool
     ensures { result ≡ may_be_asked law multiple multiplier }
 {
-    (1..=2).contains(&law) && (1001..=20000).contains(&multiple) && (10..=1500).contains(&multiplier)
+    (1..=2).contains(&law)
+        && (1001..=20000).contains(&multiple)
+        && (10..=1500).contains(&multiplier)
 }
 
 // The time in ms of curve B (1) or C (2) at a multiple of the pickup and with a multiplier, both in thousandths [02 §3]; 0 where there is none.
