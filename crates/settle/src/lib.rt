@@ -25,7 +25,7 @@ use layout::{CardRow, FIELDS, Row, row_at};
 use sides::{Primary, Secondary, in_primary, least_keyed};
 use times::time_row;
 
-// The cutoff is fitted at a stated pickup or not fitted [01 §3].
+// The cutoff is fitted at a stated pickup or not fitted [01 §3]. An enum of its own, as document 01 binds it ("What form to use where").
 #[derive(Clone, Copy)]
 pub enum Cutoff {
     Fitted(Secondary),
@@ -227,12 +227,15 @@ pub fn settle(
 }
 
 // The number that the card shows for a cutoff.
-fn printed_cutoff(c: Cutoff) -> Secondary
-    ensures { result ≡ printed c }
-{
-    match c {
-        Cutoff::Fitted(x) => x,
-        Cutoff::NotFitted => Secondary(0),
+impl From<Cutoff> for Secondary {
+    ghost from_gives = { λ c x. x ≡ printed c };
+
+    #[tactic(auto, unfolding(crate::specs::Settle::printed))]
+    fn from(c: Cutoff) -> Secondary {
+        match c {
+            Cutoff::Fitted(x) => x,
+            Cutoff::NotFitted => Secondary(0),
+        }
     }
 }
 
@@ -242,8 +245,7 @@ impl From<Outcome> for CardRow {
 
     fn from(o: Outcome) -> CardRow {
         let pickup = o.pickup;
-        let found = o.cutoff;
-        let cutoff = printed_cutoff(found);
+        let cutoff = Secondary::from(o.cutoff);
         if o.law == 0 {
             return CardRow {
                 pickup,

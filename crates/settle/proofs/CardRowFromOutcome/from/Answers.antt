@@ -18,7 +18,7 @@ module _ (o : Outcome) (C : Secondary) (e : C ≡ printed o.cutoff) where
   curved n = rw (is-curve o.law n, e)
 
 pub returns-then-o-eq0 : goal.returns-then-o-eq0
-returns-then-o-eq0 c = definite _ _ c.printed_cutoff-cutoff.ensures c.if-o-eq0.true
+returns-then-o-eq0 c = definite _ _ c.from-cutoff.ensures c.if-o-eq0.true
 
 pub returns : goal.returns
-returns c = curved _ _ c.printed_cutoff-cutoff.ensures c.if-o-eq0.false
+returns c = curved _ _ c.from-cutoff.ensures c.if-o-eq0.false
