@@ -28,26 +28,92 @@ fn rating_right(q: Ratio) -> bool
     q.secondary == 1 || q.secondary == 5
 }
 
-// The table goes by reference: made here, it would be made anew for each field.
-fn field_right(list: &[u64], table: &[u64], i: usize, k: usize) -> bool
-    requires { (i * field_count + field_count ≤ length list.now) × (k < field_count) × (table.now ≡ bounds_at list.now i) }
-    ensures { result ≡ field_right list.now i k }
-{
-    let x = field_at(list, i, k);
-    if !in_bounds(table, k, x) {
-        return false;
+// Half of the fields: a loop over so many is compiled without a branch back, with the bounds as constants; one over all is not.
+const HALF: usize = FIELDS / 2;
+
+// A row of a list, with the table of bounds that its fields are held to. The table goes by reference: made for each row, it would be made anew.
+#[derive(Clone, Copy)]
+struct ListRow<'a> {
+    list: &'a [u64],
+    table: &'a [u64],
+    i: usize,
+    ghost in_list: { i * field_count + field_count ≤ length list.now },
+    ghost own_table: { table.now ≡ bounds_at list.now i },
+}
+
+impl ListRow<'_> {
+    // Whether a field is right by itself.
+    fn field_right(self, k: usize) -> bool
+        requires { k < field_count }
+        ensures { result ≡ field_right self.entry.list.now self.entry.i k }
+    {
+        let x = field_at(self.list, self.i, k);
+        if !in_bounds(self.table, k, x) {
+            return false;
+        }
+        if k == 0 {
+            return x == (self.i as u64) + 1;
+        }
+        if k == AT_SECONDARY {
+            let primary = field_at(self.list, self.i, AT_PRIMARY);
+            return rating_right(Ratio {
+                primary,
+                secondary: x,
+            });
+        }
+        true
     }
-    if k == 0 {
-        return x == (i as u64) + 1;
+
+    // The first field from one on, and below another, that is not right by itself.
+    fn first_wrong(self, from: usize, to: usize) -> Option<usize>
+        requires { (from ≤ to) × (to ≤ field_count) }
+        ensures { result ≡ first (field_wrong self.entry.list.now self.entry.i) from (to - from) }
+    {
+        for k in from..to {
+            if !self.field_right(k) {
+                return Some(k);
+            }
+        }
+        None
     }
-    if k == AT_SECONDARY {
-        let primary = field_at(list, i, AT_PRIMARY);
-        return rating_right(Ratio {
-            primary,
-            secondary: x,
-        });
+
+    // The field at fault, from 1, of a row whose fields are each right by themselves. Only a row with a ratio can have high above its most.
+    fn order_fault<const RATED: bool>(self) -> Option<u64>
+        requires in_range { (k : ℕ) → k < field_count → FieldInRange self.list.now self.i k }
+        requires unrated { RATED ≡ false → field self.list.now self.i at_primary ≡ 0 }
+        ensures { result ≡ order_fault self.entry.list.now self.entry.i }
+    {
+        let low = field_at(self.list, self.i, AT_LOW);
+        let high = field_at(self.list, self.i, AT_HIGH);
+        if high < low {
+            return Some((AT_LOW as u64) + 1);
+        }
+        if !RATED {
+            return None;
+        }
+        let primary = field_at(self.list, self.i, AT_PRIMARY);
+        let secondary = field_at(self.list, self.i, AT_SECONDARY);
+        let q = Ratio { primary, secondary };
+        if high_right(q, Secondary(high)) {
+            None
+        } else {
+            Some((AT_HIGH as u64) + 1)
+        }
     }
-    true
+
+    // The first field at fault, from 1, of a row with a ratio or of one without. Two functions are compiled of it: most rows have no ratio.
+    fn fault<const RATED: bool>(self) -> Option<u64>
+        requires { RATED ≡ false → field self.list.now self.i at_primary ≡ 0 }
+        ensures { result ≡ row_fault self.entry.list.now self.entry.i }
+    {
+        if let Some(k) = self.first_wrong(0, HALF) {
+            return Some((k as u64) + 1);
+        }
+        if let Some(k) = self.first_wrong(HALF, FIELDS) {
+            return Some((k as u64) + 1);
+        }
+        self.order_fault::<RATED>()
+    }
 }
 
 // High is at most 100,000,000 mA primary; multiplied out, and true with 0 in both ratings.
@@ -58,73 +124,25 @@ fn high_right(q: Ratio, high: Secondary) -> bool
     high.0 * q.primary <= PRIMARY_MOST * q.secondary
 }
 
-// The field at fault, from 1, of a row whose fields are each right by themselves. Only a row with a ratio can have high above its most.
-fn order_fault<const RATED: bool>(list: &[u64], i: usize) -> Option<u64>
-    requires in_list { i * field_count + field_count ≤ length list.now }
-    requires in_range { (k : ℕ) → k < field_count → FieldInRange list.now i k }
-    requires unrated { RATED ≡ false → field list.now i at_primary ≡ 0 }
-    ensures { result ≡ order_fault list.now i }
-{
-    let low = field_at(list, i, AT_LOW);
-    let high = field_at(list, i, AT_HIGH);
-    if high < low {
-        return Some((AT_LOW as u64) + 1);
-    }
-    if !RATED {
-        return None;
-    }
-    let primary = field_at(list, i, AT_PRIMARY);
-    let secondary = field_at(list, i, AT_SECONDARY);
-    let q = Ratio { primary, secondary };
-    if high_right(q, Secondary(high)) {
-        None
-    } else {
-        Some((AT_HIGH as u64) + 1)
-    }
-}
-
-// The first field from one on, and below another, that is not right by itself.
-fn first_wrong(list: &[u64], table: &[u64], i: usize, from: usize, to: usize) -> Option<usize>
-    requires { (i * field_count + field_count ≤ length list.now) × (table.now ≡ bounds_at list.now i) × (from ≤ to) × (to ≤ field_count) }
-    ensures { result ≡ first (field_wrong list.now i) from (to - from) }
-{
-    for k in from..to {
-        if !field_right(list, table, i, k) {
-            return Some(k);
-        }
-    }
-    None
-}
-
-// Half of the fields: a loop over so many is compiled without a branch back, with the bounds as constants; one over all is not.
-const HALF: usize = FIELDS / 2;
-
-// The first field at fault, from 1, of a row with a ratio or of one without, by its own table. Two functions are compiled of it: most rows
-// have no ratio.
-fn fault_by<const RATED: bool>(list: &[u64], table: &[u64], i: usize) -> Option<u64>
-    requires in_list { i * field_count + field_count ≤ length list.now }
-    requires own_table { table.now ≡ bounds_at list.now i }
-    requires unrated { RATED ≡ false → field list.now i at_primary ≡ 0 }
-    ensures { result ≡ row_fault list.now i }
-{
-    if let Some(k) = first_wrong(list, table, i, 0, HALF) {
-        return Some((k as u64) + 1);
-    }
-    if let Some(k) = first_wrong(list, table, i, HALF, FIELDS) {
-        return Some((k as u64) + 1);
-    }
-    order_fault::<RATED>(list, i)
-}
-
-// The same, by the table of a row without a ratio or that of a row with one.
+// The first field at fault, from 1, by the table of a row without a ratio or that of a row with one.
 fn row_fault(list: &[u64], unrated: &[u64], rated: &[u64], i: usize) -> Option<u64>
     requires { (i * field_count + field_count ≤ length list.now) × (unrated.now ≡ bounds_to 100000000) × (rated.now ≡ bounds_to 500000) }
     ensures { result ≡ row_fault list.now i }
 {
     if field_at(list, i, AT_PRIMARY) == 0 {
-        return fault_by::<false>(list, unrated, i);
+        return ListRow {
+            list,
+            table: unrated,
+            i,
+        }
+        .fault::<false>();
     }
-    fault_by::<true>(list, rated, i)
+    ListRow {
+        list,
+        table: rated,
+        i,
+    }
+    .fault::<true>()
 }
 
 // 4 FIELD over all rows ascending.

@@ -1,4 +1,4 @@
--- `rows::fault_by` meets its contract: the first field that is not right is in the first part, or in the second; then their order is judged.
+-- `rows::ListRow::fault` meets its contract: the first field that is not right is in the first part, or in the second; then their order is judged.
 use native.Mathlib.Omega.{arith}
 use mathlib.Core.Path.{sym, ◌∙◌}
 use Rattle.layout.specs.Counts.{field_count}
@@ -6,7 +6,7 @@ use borrow.Author.Tests.{not-false}
 use Rattle.fold.proofs.FirstLaws.{first-at, first-nothing}
 use Rattle.rows.proofs.InRangeLaws.{field-in-range}
 use Rattle.rows.proofs.TestLaws.{wrong-before, wrong-behind, none-wrong, fault-found, fault-after}
-use Rattle.rows.proofs.fault_by.Goals as goal
+use Rattle.rows.proofs.ListRow.fault.Goals as goal
 
 pub overflow_add-result : goal.overflow_add-result
 overflow_add-result g c = omega (arith, (first-at _ _ 0 _ (sym c.first_wrong.ensures ∙ c.in-Some.is)).below)

@@ -1,4 +1,4 @@
--- `rows::order_fault` meets its contract: each return is a way in which the order of the fields is judged; the product fits, as the fields
+-- `rows::ListRow::order_fault` meets its contract: each return is a way in which the order of the fields is judged; the product fits, as the fields
 -- are in range.
 use native.Mathlib.Omega.{arith}
 use mathlib.Core.Path.{◌≡◌}
@@ -10,7 +10,7 @@ use Rattle.layout.specs.List.{field}
 use Rattle.sides.proofs.SidesLaws.{setting-to}
 use Rattle.rows.specs.InRange.{FieldInRange}
 use Rattle.rows.proofs.TestLaws.{plain-right, order-low, order-none, order-high}
-use Rattle.rows.proofs.order_fault.Goals as goal
+use Rattle.rows.proofs.ListRow.order_fault.Goals as goal
 
 fits :
     (l : List ℕ) (i : ℕ) → ((k : ℕ) → k < field_count → FieldInRange l i k) → (high p s : ℕ) → high ≡ field l i at_high → p ≡ field l i at_primary →

@@ -1,9 +1,9 @@
--- `rows::first_wrong` meets its contract: the loop has passed fields that are right, so the first that is left is the first of all.
+-- `rows::ListRow::first_wrong` meets its contract: the loop has passed fields that are right, so the first that is left is the first of all.
 use mathlib.Core.Bool.{not}
 use mathlib.Core.Path.{sym, ap, ◌∙◌}
 use Rattle.fold.proofs.FirstLaws.{first-step-true, first-step-false, first-end}
 use Rattle.rows.specs.Tests.{field_wrong}
-use Rattle.rows.proofs.first_wrong.Goals as goal
+use Rattle.rows.proofs.ListRow.first_wrong.Goals as goal
 
 pub returns-then-not-field_right : goal.returns-then-not-field_right
 returns-then-not-field_right c = sym

@@ -1,9 +1,0 @@
--- `rows::first_wrong` meets its contract: the loop has passed fields that are right, so the first that is left is the first of all.
-use mathlib.Core.Path.{◌≡◌}
-use Prim.Native.Nat.{◌-◌}
-use Rattle.fold.specs.First.{first}
-use Rattle.rows.specs.Tests.{field_wrong}
-use Rattle.rows.proofs.first_wrong.Given as goal
-
-abbrev pub invariant-loop-k : goal.invariant-loop-k
-invariant-loop-k l = first (field_wrong l.list l.i) l.from (l.to - l.from) ≡ first (field_wrong l.list l.i) l.k (l.to - l.k)
