@@ -63,6 +63,7 @@ fn unsettled(row: u64, why: Reason) -> [u64; NUMBERS]
     }
 }
 
+// A function and no From: neither a Result nor an array is a type of this crate.
 pub fn numbers(a: Result<(), Refusal>) -> [u64; NUMBERS]
     ensures { result ≡ given_by a }
 {

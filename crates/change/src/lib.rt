@@ -14,7 +14,7 @@ use layout::FIELDS;
 use path::{test_card, work_path};
 use rows::{test_rows, test_size};
 
-// What a replacement gives back: section 4's numbers, and how many rows were worked out, 0 on a refusal.
+// What a replacement gives back: section 4's numbers, and how many rows were worked out, 0 on a refusal. Numbers, as they go across C.
 #[derive(Clone, Copy)]
 pub struct Replacement {
     pub numbers: [u64; NUMBERS],
@@ -48,12 +48,7 @@ fn exchange(list: &mut [u64], card: &mut [u64], i: usize, row: &[u64]) -> Result
     far
 }
 
-fn answer(
-    list: &mut [u64],
-    card: &mut [u64],
-    place: u64,
-    row: &[u64],
-) -> Result<u64, Refusal>
+fn answer(list: &mut [u64], card: &mut [u64], place: u64, row: &[u64]) -> Result<u64, Refusal>
     ensures { Exchanged (replaced list.old card.old place row.now) result list.new card.new }
 {
     test_size(list.len(), card.len())?;

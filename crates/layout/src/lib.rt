@@ -1,4 +1,4 @@
-// The layout of a list and of a card lent as numbers: counts, tables of bounds, rows [01 §2, §4].
+// The layout of a list and of a card lent as numbers: counts, tables of bounds, rows [01 §2, §4]. Both stay flat, as they are lent across C.
 // Rows, fields and columns are counted from 0 here: index i is row number i + 1, index k is field number k + 1.
 #![tactic(auto)]
 
@@ -67,7 +67,8 @@ pub const AT_LAW: usize = 20;
 
 pub const AT_GREATEST: usize = 21;
 
-// The least and the greatest number allowed, field by field [01 §2], [02 §1, §3]; low, high and step go to `most`.
+// The least and the greatest number allowed, field by field [01 §2], [02 §1, §3]; low, high and step go to `most`. Numbers and no pairs:
+// `bounds_to` is such a list, and entry k of it is held to the documents by theorems.
 pub fn field_bounds(most: u64) -> [u64; 2 * FIELDS]
     ensures { result ≡ bounds_to most }
 {
@@ -116,7 +117,8 @@ pub fn in_bounds(table: &[u64], k: usize, x: u64) -> bool
 }
 
 // What the conditions read of a row: fields 2 to 22, in the list's order [01 §2], [02 §1, §3]. Low, high and step are as
-// they are keyed: secondary mA where the row has a ratio, primary mA where not. Other currents are primary.
+// they are keyed: secondary mA where the row has a ratio, primary mA where not. Other currents are primary. Kind, device, backed and law are
+// the list's numbers and no enums: `row_at`, the conditions and the theorems are over any list, in range or not.
 #[derive(Clone, Copy)]
 pub struct Row {
     pub feeder: u64,
@@ -141,6 +143,7 @@ pub struct Row {
     pub greatest: Primary,
 }
 
+// A field, as a column below: a function for both would be told its width at each of 16 calls.
 pub fn field_at(list: &[u64], i: usize, k: usize) -> u64
     requires { i * field_count + k < length list.now }
     ensures { result ≡ field list.now i k }
@@ -181,6 +184,7 @@ pub fn row_at(list: &[u64], i: usize) -> Row
 }
 
 // A card row's columns, in the card's order; the currents as they are keyed: secondary mA where the row has a ratio, primary mA where not.
+// The law is the card's number: a lent card is read before it is tested.
 #[derive(Clone, Copy, PartialEq, Eq)]
 pub struct CardRow {
     pub pickup: Secondary,

@@ -25,7 +25,7 @@ use layout::{CardRow, FIELDS, Row, row_at};
 use sides::{Primary, Secondary, in_primary, least_keyed};
 use times::time_row;
 
-// The cutoff is fitted at a stated pickup or not fitted [01 §3]. An enum of its own, as document 01 binds it ("What form to use where").
+// The cutoff is fitted at a stated pickup or not fitted [01 §3]. An enum of its own and no Option: document 01 binds this form.
 #[derive(Clone, Copy)]
 pub enum Cutoff {
     Fitted(Secondary),
@@ -118,6 +118,9 @@ fn backs_up(r: Row, f: Row, x: Primary) -> bool
     12 * x.0 * r.volts <= 10 * f.far.0 * f.volts
 }
 
+// List, i and r go together and are no struct: `Listed` holds the either-or of a rated secondary, which a ghost field takes truncated alone,
+// and the proofs need it whole.
+
 // Row j is fed by row i, whose fields are r, and pickup x of that row fails P4 for it.
 fn is_unbacked(list: &[u64], i: usize, r: Row, x: Primary, j: usize) -> bool
     requires { Listed list.now i r × PrimaryBounded x × (j < rows list.now) }
@@ -206,13 +209,7 @@ fn cutoff_at(r: Row) -> Cutoff
 }
 
 // The least settings of row i, whose fields are r, or the refusal: RANGE, OWN ZONE or BACKUP before CURVE, and CURVE before DELAY.
-pub fn settle(
-    tree: FeedingTree,
-    card: &[u64],
-    i: usize,
-    r: Row,
-    f: Fed,
-) -> Result<Outcome, Reason>
+pub fn settle(tree: FeedingTree, card: &[u64], i: usize, r: Row, f: Fed) -> Result<Outcome, Reason>
     requires { Listed tree.list.now i r × FedBounded f × FedReady tree.list.now card.now i }
     ensures { result ≡ settled_by (view_of tree.entry.list.now) (card_row_at card.now) i r f }
 {

@@ -117,13 +117,7 @@ fn ask(
 }
 
 // What all the rows that row i feeds ask, gone through in ascending order.
-fn walk(
-    tree: FeedingTree,
-    card: &[u64],
-    i: usize,
-    r: Row,
-    pickup: Primary,
-) -> Result<u64, Stalled>
+fn walk(tree: FeedingTree, card: &[u64], i: usize, r: Row, pickup: Primary) -> Result<u64, Stalled>
     requires { Listed tree.list.now i r × PrimaryBounded pickup × FedReady tree.list.now card.now i }
     ensures { WalkIs (view_of tree.entry.list.now) (card_row_at card.now) i r pickup result }
 {
@@ -137,7 +131,7 @@ fn walk(
     Ok(from)
 }
 
-// The least and the greatest setting that are tried.
+// The least and the greatest setting that are tried: no twins, as a definite row takes the one from its floor, the other from its ceiling.
 fn tried_from(r: Row) -> u64
     ensures { result ≡ tried_from r }
 {

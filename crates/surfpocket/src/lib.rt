@@ -215,7 +215,8 @@ fn may_be_asked(law: u64, multiple: u64, multiplier: u64) -> bool
         && (10..=1500).contains(&multiplier)
 }
 
-// The time in ms of curve B (1) or C (2) at a multiple of the pickup and with a multiplier, both in thousandths [02 §3]; 0 where there is none.
+// The time in ms of curve B (1) or C (2) at a multiple of the pickup and with a multiplier, both in thousandths [02 §3]; 0 where there is none,
+// as C has no Option.
 #[unsafe(no_mangle)]
 pub extern "C" fn surfpocket_time(law: u64, multiple: u64, multiplier: u64) -> u64
     ensures { result ≡ time_asked law multiple multiplier }
