@@ -1,18 +1,11 @@
 // Leaf arithmetic: the least available value of a grid low, low + step, .. up to high.
 #![tactic(auto)]
 
-ghost use Rattle.std.specs.Prelude.{◌≡◌, max, leb};
+ghost use Rattle.std.specs.Prelude.{◌≡◌, leb};
 ghost use Rattle.grid.specs.Grid.{least_on};
 ghost use Rattle.grid.specs.Round.{ceil_div};
 
-// The greater of two numbers.
-pub fn greater(a: u64, b: u64) -> u64
-    ensures { result ≡ max a b }
-{
-    a.max(b)
-}
-
-// n / d rounded up; 0 where d is 0.
+// n / d rounded up; 0 where d is 0, and no Option: `time_of` and its theorems are over every M, and take it for the time of none.
 #[tactic(auto, unfolding(crate::specs::Round::ceil_div))]
 pub fn ceil_div(n: u64, d: u64) -> u64
     ensures { result ≡ ceil_div n d }

@@ -8,7 +8,6 @@ ghost use Rattle.rowwise.specs.Sums.{joined, pushed, step, steps};
 
 use answers::Refusal;
 use feeding::FeedingTree;
-use grid::greater;
 use layout::{CardRow, Row, put_card_row, row_at};
 use settle::{Fed, asks, settle};
 
@@ -18,8 +17,8 @@ fn join(a: Fed, b: Fed) -> Fed
 {
     Fed {
         load: a.load + b.load,
-        excess: greater(a.excess, b.excess),
-        shortfall: greater(a.shortfall, b.shortfall),
+        excess: a.excess.max(b.excess),
+        shortfall: a.shortfall.max(b.shortfall),
     }
 }
 

@@ -20,7 +20,7 @@ ghost use Rattle.settle.specs.Settle.{unbacked, first_unbacked, judged, cutoff_o
 
 use answers::{Cause, Reason};
 use feeding::FeedingTree;
-use grid::{greater, least_on};
+use grid::least_on;
 use layout::{CardRow, FIELDS, Row, row_at};
 use sides::{Primary, Secondary, in_primary, least_keyed};
 use times::time_row;
@@ -81,7 +81,7 @@ fn pickup_from(r: Row, f: Fed) -> Secondary
     let returns = least_keyed(q, 11 * r.selfstart * r.work.0, 10 * r.returnfactor);
     let asked = (f.excess + f.load).saturating_sub(REACH);
     let clears = least_keyed(q, 11 * asked, 10 * r.volts);
-    Secondary(greater(returns.0, clears.0))
+    Secondary(returns.0.max(clears.0))
 }
 
 // The least pickup that the relay offers from a bound on.

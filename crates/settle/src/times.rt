@@ -15,7 +15,7 @@ use super::Stalled;
 use answers::Reason;
 use curve::{least_setting, multiple, setting_from, setting_to, stalls, time_of};
 use feeding::FeedingTree;
-use grid::{greater, least_on};
+use grid::least_on;
 use layout::{AT_DEVICE, CardRow, Row, card_row_at, field_at, row_at};
 use sides::{Primary, in_primary};
 
@@ -33,7 +33,7 @@ fn margin_of(device: u64) -> u64
 fn margin_between(d: u64, e: u64) -> u64
     ensures { result ≡ margin_between d e }
 {
-    greater(margin_of(d), margin_of(e))
+    margin_of(d).max(margin_of(e))
 }
 
 // M of a row with this law at the greatest current of row f's near end; a definite row needs none, and gets 0.
@@ -121,11 +121,11 @@ fn walk(tree: FeedingTree, card: &[u64], i: usize, r: Row, pickup: Primary) -> R
     requires { Listed tree.list.now i r × PrimaryBounded pickup × FedReady tree.list.now card.now i }
     ensures { WalkIs (view_of tree.entry.list.now) (card_row_at card.now) i r pickup result }
 {
-    let mut from = 0;
+    let mut from = 0u64;
     let mut next = tree.first_fed(i);
     while let Some(j) = next {
         let b = ask(tree.list, card, i, r, pickup, j)?;
-        from = greater(from, b);
+        from = from.max(b);
         next = tree.next_fed(j);
     }
     Ok(from)
@@ -159,8 +159,8 @@ fn least_time(r: Row, m: u64, from: u64) -> Option<u64>
     ensures { result ≡ least_setting r (λ x. within_delays r (time_of r.law m x) && leb from x) }
 {
     let motor = if r.kind == 3 { 100 } else { 0 };
-    let own = least_setting(r.law, m, greater(r.floor, motor));
-    match least_on(tried_from(r), tried_to(r), 1, greater(own, from)) {
+    let own = least_setting(r.law, m, r.floor.max(motor));
+    match least_on(tried_from(r), tried_to(r), 1, own.max(from)) {
         None => None,
         Some(x) => if time_of(r.law, m, x) <= r.ceiling {
             Some(x)

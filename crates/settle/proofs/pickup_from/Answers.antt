@@ -25,6 +25,6 @@ least_keyed-returns-requires c = let a = c.requires.0 in
 pub returns : goal.returns
 returns c = let r = c.args.r in
     λ (x : ℕ).
-    ap (λ (b : ℕ). leb b x) c.greater.ensures ∙
+    ap (λ (b : ℕ). leb b x) c.max.ensures ∙
     pickup-bound r c.args.f x _ _ (c.least_keyed-returns.ensures x)
     (c.least_keyed-clears.ensures x ∙ ap (λ (k : ℕ). leb (11 * k) (10 * r.volts * (primary_of r (keyed x)).0)) c.saturating_sub-asked.ensures)

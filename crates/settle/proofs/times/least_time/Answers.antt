@@ -72,27 +72,27 @@ joined_is c =
 
 pub least_setting-own-requires : goal.least_setting-own-requires
 least_setting-own-requires c = let a = c.requires in
-    (a.1, wanted-to _ _ a.0 _ (joined_is (goal.at.least_setting-own-requires c).Joined-r-eq3) c.greater.ensures, a.2)
+    (a.1, wanted-to _ _ a.0 _ (joined_is (goal.at.least_setting-own-requires c).Joined-r-eq3) c.max.ensures, a.2)
 
 pub time_of-requires : goal.time_of-requires
 time_of-requires c = let a = c.requires in (
   a.1,
-  within-to _ _ _ _ _ _ _ _ _ _ (joined_is (goal.at.time_of-requires c).Joined-r-eq3) c.greater.ensures c.least_setting-own.ensures
-      c.tried_from.ensures c.tried_to.ensures c.greater-2.ensures
+  within-to _ _ _ _ _ _ _ _ _ _ (joined_is (goal.at.time_of-requires c).Joined-r-eq3) c.max.ensures c.least_setting-own.ensures
+      c.tried_from.ensures c.tried_to.ensures c.max-2.ensures
       c.least_on.ensures a.0 _ c.in-Some.is,
 )
 
 pub returns-in-None : goal.returns-in-None
-returns-in-None c = none _ _ _ _ _ _ _ _ _ _ (joined_is (goal.at.returns-in-None c).Joined-r-eq3) c.greater.ensures c.least_setting-own.ensures
-    c.tried_from.ensures c.tried_to.ensures c.greater-2.ensures
+returns-in-None c = none _ _ _ _ _ _ _ _ _ _ (joined_is (goal.at.returns-in-None c).Joined-r-eq3) c.max.ensures c.least_setting-own.ensures
+    c.tried_from.ensures c.tried_to.ensures c.max-2.ensures
     c.least_on.ensures c.in-None.is
 
 pub returns-then-time_of-r : goal.returns-then-time_of-r
-returns-then-time_of-r c = under _ _ _ _ _ _ _ _ _ _ (joined_is (goal.at.returns-then-time_of-r c).Joined-r-eq3) c.greater.ensures c.least_setting-own.ensures
-    c.tried_from.ensures c.tried_to.ensures c.greater-2.ensures
+returns-then-time_of-r c = under _ _ _ _ _ _ _ _ _ _ (joined_is (goal.at.returns-then-time_of-r c).Joined-r-eq3) c.max.ensures c.least_setting-own.ensures
+    c.tried_from.ensures c.tried_to.ensures c.max-2.ensures
     c.least_on.ensures _ _ c.in-Some.is c.time_of.ensures c.if-time_of-r.true
 
 pub returns-else-time_of-r : goal.returns-else-time_of-r
-returns-else-time_of-r c = over _ _ _ _ _ _ _ _ _ _ (joined_is (goal.at.returns-else-time_of-r c).Joined-r-eq3) c.greater.ensures c.least_setting-own.ensures
-    c.tried_from.ensures c.tried_to.ensures c.greater-2.ensures
+returns-else-time_of-r c = over _ _ _ _ _ _ _ _ _ _ (joined_is (goal.at.returns-else-time_of-r c).Joined-r-eq3) c.max.ensures c.least_setting-own.ensures
+    c.tried_from.ensures c.tried_to.ensures c.max-2.ensures
     c.least_on.ensures _ _ c.in-Some.is c.time_of.ensures c.if-time_of-r.false

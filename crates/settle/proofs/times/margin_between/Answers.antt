@@ -6,4 +6,4 @@ use Rattle.settle.proofs.times.margin_between.Goals as goal
 
 pub returns : goal.returns
 unfolding margin_between
-returns c = c.greater.ensures ∙ ap₂ max c.margin_of.ensures c.margin_of-2.ensures
+returns c = c.max.ensures ∙ ap₂ max c.margin_of.ensures c.margin_of-2.ensures

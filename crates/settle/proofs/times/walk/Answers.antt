@@ -34,7 +34,7 @@ loop-next-smaller c = let w = c.loop-next.invariant in
 pub loop-next-preserved : goal.loop-next-preserved
 loop-next-preserved c = let w = c.loop-next.invariant in
     walk-next _ _ _ _ _ _ _ w _ c.in-Some.is _ _ _ c.in_ok-b.ensures
-    c.greater-from.ensures (c.next_fed-next.ensures _ (walk-feeds _ _ _ _ _ _ _ w _ c.in-Some.is))
+    c.max-from.ensures (c.next_fed-next.ensures _ (walk-feeds _ _ _ _ _ _ _ w _ c.in-Some.is))
 
 pub returns : goal.returns
 returns c = walk_end _ _ _ _ _ _ _ c.loop-next.invariant c.in_default.is
