@@ -6,7 +6,7 @@ ghost use Rattle.std.specs.Prelude.{◌≤◌, length, take};
 ghost use Rattle.print.specs.Card.{Printed};
 ghost use Rattle.sheet.specs.Sheet.{sheet_most, sheet_of};
 
-use console::{Input, read_input, say, write_output};
+use console::{read_input, say, write_output};
 use sheet::{SHEET_MOST, sheet};
 use text::TEXT_ROOM;
 
@@ -19,10 +19,10 @@ fn print_read(text: &[u8], size: usize, out: &mut [u8]) -> usize
     page.bytes
 }
 
+// As in `diffcard`: one function for both would take the streams, the buffers, what prints and the messages, and be no shorter than this.
 fn main(rt: HostRuntime) {
     let mut text = [0u8; TEXT_ROOM];
-    let input = read_input(&mut rt.stdin(), &mut text);
-    let Input::Read(size) = input else {
+    let Ok(size) = read_input(&mut rt.stdin(), &mut text) else {
         say(
             &mut rt.stderr(),
             b"card: standard input could not be read\n",
@@ -31,7 +31,7 @@ fn main(rt: HostRuntime) {
     };
     let mut out = [0u8; SHEET_MOST];
     let bytes = print_read(&text, size, &mut out);
-    if !write_output(&mut rt.stdout(), &out[..bytes]) {
+    if write_output(&mut rt.stdout(), &out[..bytes]).is_err() {
         say(
             &mut rt.stderr(),
             b"card: standard output could not be written whole\n",

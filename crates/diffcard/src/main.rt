@@ -2,12 +2,14 @@
 // refusal [02 §11]. A text that could not be read, or an output that could not be written whole, is said on standard error.
 #![tactic(auto)]
 
-ghost use Rattle.std.specs.Prelude.{◌≤◌, length, take};
+ghost use Rattle.std.specs.Prelude.{◌≤◌, length, take, OnOk};
+ghost use Rattle.std.specs.Io.KnownBytes.{Appends};
 ghost use Rattle.print.specs.Card.{Printed};
 ghost use Rattle.diffsheet.specs.Sheet.{diff_most, diff_of};
 
-use console::{Input, read_input, say, write_output};
+use console::{read_input, say, write_output};
 use diffsheet::{DIFF_MOST, diffsheet};
+use std::io;
 use std::io::Write;
 use text::TEXT_ROOM;
 
@@ -25,17 +27,18 @@ fn write_printed<W: Write>(
     text: &[u8],
     size: usize,
     out: &mut [u8; DIFF_MOST],
-) -> bool
+) -> io::Result<()>
     requires { size ≤ length text.now }
+    ensures { OnOk result (Appends (W.contents sink.old) (W.contents sink.new) (diff_of (take size text.now))) }
 {
     let bytes = print_read(text, size, out);
     write_output(sink, &out[..bytes])
 }
 
+// As in `card`: one function for both would take the streams, the buffers, what prints and the messages, and be no shorter than this.
 fn main(rt: HostRuntime) {
     let mut text = [0u8; TEXT_ROOM];
-    let input = read_input(&mut rt.stdin(), &mut text);
-    let Input::Read(size) = input else {
+    let Ok(size) = read_input(&mut rt.stdin(), &mut text) else {
         say(
             &mut rt.stderr(),
             b"diffcard: standard input could not be read\n",
@@ -43,7 +46,7 @@ fn main(rt: HostRuntime) {
         return;
     };
     let mut out = [0u8; DIFF_MOST];
-    if !write_printed(&mut rt.stdout(), &text, size, &mut out) {
+    if write_printed(&mut rt.stdout(), &text, size, &mut out).is_err() {
         say(
             &mut rt.stderr(),
             b"diffcard: standard output could not be written whole\n",

@@ -1,15 +1,16 @@
 -- What is printed for a text is what the printers leave: the refusal of a bad line, or a line for each row that was read.
+use Rattle.std.proofs.Common.{Ok, Err}
+use Rattle.text.specs.Text.{bad_line}
+use Rattle.text.specs.Text.{Reading}
 use mathlib.Core.Path.{◌≡◌, refl, sym, ap, ◌∙◌}
 use mathlib.Core.List.{List, ◌++◌}
 use Prim.Native.Nat.{ℕ, ◌+◌, ◌*◌, ◌/◌, ◌≤◌, ◌<◌}
 use native.Mathlib.Omega.{arith}
 use lib.ListN.{length, drop, length-append}
 use borrow.Author.Tests.{le-leb, lt-leb}
-use Rattle.answers.specs.declared.Answer.TheVariants as answer
+use Rattle.answers.specs.declared.Refusal.TheVariants as refusal
 use Rattle.answers.specs.Answer.{given_by}
 use Rattle.cursor.specs.Spelt.{spelt}
-use Rattle.text.specs.declared.Reading.{Reading}
-use Rattle.text.specs.declared.Reading.TheVariants.{BadLine, Rows}
 use Rattle.text.specs.Gets.{NoCrlf}
 use Rattle.text.specs.Grammar.{rows_as}
 use Rattle.text.specs.Line.{columns_of}
@@ -57,7 +58,7 @@ lines-printed n xs out o₁ o₂ r₁ r₂ h same w₁ w₂ =
 
 module _ (s : List ℕ) where
   -- a text has at most so many lines
-  pub lines-few : (n : ℕ) → reading s ≡ Rows n → n ≤ lines_most
+  pub lines-few : (n : ℕ) → reading s ≡ Ok n → n ≤ lines_most
   lines-few n e =
       let r = (rows-exactly input_header input_columns 1 s header-one-line n).0 e in
       omega (arith, header-long, r.0, r.1.1.1, rw columns-long at (text-many r.1.1.0))
@@ -73,14 +74,14 @@ module _ (s : List ℕ) where
 
   -- a bad line: its refusal
   pub bad-printed :
-      (line : ℕ) (given out out' : List ℕ) (bytes : ℕ) → reading s ≡ BadLine line → given ≡ given_by (answer.Text line) → diff_most ≤ length out →
+      (line : ℕ) (given out out' : List ℕ) (bytes : ℕ) → reading s ≡ bad_line line → given ≡ given_by (Err (refusal.Text line)) → diff_most ≤ length out →
       Printed out (refusal_printed given (length out)) out' bytes → Printed out (diff_printed s (length out)) out' bytes
   unfolding diff_of diff_by refusal_printed
   bad-printed line given out out' bytes e g h p =
       rw (room-for-all (length out) h, e) (rw (g, le-leb refusal_most (length out) (omega arith)) at p)
 
   -- rows: a line for each, from the numbers that were read
-  module _ (n : ℕ) (e : reading s ≡ Rows n) where
+  module _ (n : ℕ) (e : reading s ≡ Ok n) where
     read-front :
         (inputs inputs' : List ℕ) (r : Reading) → length inputs ≡ lines_most * input_count → InputsTaken s inputs inputs' r →
         inputs' ≡ numbers_as input_columns s ++ drop (length (numbers_as input_columns s)) inputs

@@ -1,10 +1,10 @@
 -- What is printed for a text of lines of inputs [02 §11], for every text: the refusal of section 6 exactly where the text is not of the layout, with
 -- line 0, 1 or the first bad line; otherwise a line for each of its rows, in their order.
+use Rattle.text.specs.Text.{Reading}
 use mathlib.Core.Path.{◌≡◌, refl, sym, ap, subst}
 use mathlib.Core.Logic.{◌↔◌}
 use mathlib.Core.List.{List, ◌++◌}
 use Prim.Native.Nat.{ℕ}
-use Rattle.text.specs.declared.Reading.{Reading}
 use Rattle.text.specs.Gets.{TextGets, too_long, no_header, bad-line, all-rows}
 use Rattle.text.specs.Grammar.{Row}
 use Rattle.text.proofs.GrammarTheorem.{text-rows}

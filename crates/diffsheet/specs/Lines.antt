@@ -4,10 +4,9 @@ use Rattle.std.specs.Prelude.{◌≡◌, false, List, ℕ, ◌/◌, length}
 use Rattle.cursor.specs.declared.Column.{Column}
 use Rattle.cursor.specs.Spelt.{spelt}
 use Rattle.text.specs.declared.Columns.{Columns}
-use Rattle.text.specs.declared.Reading.{Reading}
 use Rattle.text.specs.Line.{columns_of}
 use Rattle.text.specs.Grammar.{Row, Text}
-use Rattle.text.specs.Text.{read_as, rows_read_as, numbers_as, blocks_over}
+use Rattle.text.specs.Text.{Reading, read_as, rows_read_as, numbers_as, blocks_over}
 use Rattle.differential.specs.Inputs.{input_count}
 
 -- the inputs' names, in the order of their places

@@ -1,12 +1,10 @@
 -- [02 §11] What is printed for a text of lines of inputs: a line each, or the refusal of the text as section 6 prints one. Definitions only.
-use Rattle.std.specs.Prelude.{cond, List, [], ◌∷◌, ◌++◌, ℕ, zero, suc, ◌+◌, ◌-◌, ◌*◌, ◌/◌, leb, get_or, drop}
-use Rattle.answers.specs.declared.Answer.TheVariants as answer
+use Rattle.std.specs.Prelude.{cond, Ok, Err, List, [], ◌∷◌, ◌++◌, ℕ, zero, suc, ◌+◌, ◌-◌, ◌*◌, ◌/◌, leb, get_or, drop}
+use Rattle.answers.specs.declared.Refusal.TheVariants.{Text}
 use Rattle.answers.specs.Answer.{given_by}
 use Rattle.cursor.specs.Spelt.{spelt}
-use Rattle.text.specs.declared.Reading.{Reading}
-use Rattle.text.specs.declared.Reading.TheVariants.{BadLine, Rows}
 use Rattle.text.specs.Grammar.{Row, rows_as}
-use Rattle.text.specs.Text.{text_most}
+use Rattle.text.specs.Text.{Reading, text_most}
 use Rattle.print.specs.Card.{numbers_text, numbers_line_most, refusal_text}
 use Rattle.differential.specs.declared.Given.{Given}
 use Rattle.differential.specs.declared.Inputs.{Inputs}
@@ -57,8 +55,8 @@ lines_from (suc n) xs = line_of xs ++ lines_from n (drop input_count xs)
 
 -- what is printed for the reading of a text
 unfoldable pub diff_by : List ℕ → Reading → List ℕ
-diff_by s (BadLine line) = refusal_text (given_by (answer.Text line))
-diff_by s (Rows n) = output_header ++ lines_of (rows_as input_columns s)
+diff_by s (Err bad) = refusal_text (given_by (Err (Text bad.0)))
+diff_by s (Ok n) = output_header ++ lines_of (rows_as input_columns s)
 
 unfoldable pub diff_of : List ℕ → List ℕ
 diff_of s = diff_by s (reading s)

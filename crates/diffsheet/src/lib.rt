@@ -8,12 +8,12 @@ ghost use Rattle.print.specs.Write.{Wrote};
 ghost use Rattle.diffsheet.specs.Lines.{InputsTaken};
 ghost use Rattle.diffsheet.specs.Sheet.{line_most, output_header, output_size, inputs_at, line_given, lines_from, diff_printed};
 
-use answers::{Answer, numbers};
+use answers::{Refusal, numbers};
 use cursor::Cursor;
 use differential::{Given, INPUTS, Inputs, differential_card};
 use print::print_refusal;
 use print::write::{DIGITS_MOST, END, FIELD_MOST, put_block, put_numbers};
-use text::{Columns, Reading, TEXT_MOST, read_text};
+use text::{BadLine, Columns, TEXT_MOST, read_text};
 
 // The bytes of the text's header, of a line of it at least (a digit for each input, commas between them, CRLF), and so the most lines.
 const INPUT_HEADER: usize = 75;
@@ -32,8 +32,8 @@ const HEADER: usize = 55;
 
 pub const DIFF_MOST: usize = HEADER + LINES * LINE_MOST;
 
-// The inputs of every line, as far as there is room.
-fn read_inputs(text: &[u8], inputs: &mut [u64]) -> Reading
+// The inputs of every line, as far as there is room; how many lines, or the first bad one.
+fn read_inputs(text: &[u8], inputs: &mut [u64]) -> Result<usize, BadLine>
     ensures { InputsTaken text.now inputs.old inputs.new result }
 {
     let columns = Columns {
@@ -41,18 +41,17 @@ fn read_inputs(text: &[u8], inputs: &mut [u64]) -> Reading
         named: false,
         after: 0,
     };
-    let mut names = [0u64; 1];
     read_text(
         text,
         Cursor { at: 0, line: 1 },
         b"start,blocking,cutoff,through,first_side,second_side,differential,restraint",
         columns,
         inputs,
-        &mut names,
+        &mut [],
     )
 }
 
-// The inputs of line i.
+// The inputs of line i. No `From`: the type is another crate's.
 fn inputs_at(inputs: &[u64], i: usize) -> Inputs
     requires { i * input_count + input_count ≤ length inputs.now }
     ensures { result ≡ inputs_at inputs.now i }
@@ -78,7 +77,7 @@ fn put_given(out: &mut [u8], at: usize, g: Given) -> usize
     let given = [
         g.number, g.place, g.start, g.bend, g.slope, g.blocking, g.cutoff, g.verdict,
     ];
-    put_numbers(out, at, &given, GIVEN)
+    put_numbers(out, at, &given)
 }
 
 // A line for each of n lines of inputs.
@@ -86,11 +85,9 @@ fn put_lines(out: &mut [u8], at: usize, inputs: &[u64], n: usize) -> usize
     requires { (at + n * line_most ≤ length out.old) × (n * input_count ≤ length inputs.now) }
     ensures { Wrote out.old at (lines_from n inputs.now) out.new result }
 {
-    let mut i = 0;
     let mut next = at;
-    while i < n {
+    for i in 0..n {
         next = put_given(out, next, differential_card(inputs_at(inputs, i)));
-        i += 1;
     }
     next
 }
@@ -117,7 +114,7 @@ pub fn diffsheet(text: &[u8], out: &mut [u8]) -> usize
     }
     let mut inputs = [0u64; LINES * INPUTS];
     match read_inputs(text, &mut inputs) {
-        Reading::BadLine(line) => print_refusal(numbers(Answer::Text(line)), out),
-        Reading::Rows(n) => print_lines(&inputs, n, out),
+        Err(BadLine(line)) => print_refusal(numbers(Err(Refusal::Text(line))), out),
+        Ok(n) => print_lines(&inputs, n, out),
     }
 }

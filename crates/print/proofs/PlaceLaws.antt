@@ -2,7 +2,7 @@
 use mathlib.Core.List.{[], ◌∷◌}
 use Rattle.cursor.specs.declared.Place.{Place}
 use Rattle.std.specs.List.{list_all}
-use mathlib.Core.Path.{◌≡◌}
+use mathlib.Core.Path.{refl, ◌≡◌}
 use mathlib.Core.Bool.{true, ◌&&◌}
 use mathlib.Core.List.{List, ◌∷◌}
 use Prim.Native.Nat.{suc, zero, ℕ, ◌+◌, ◌-◌, ◌/◌, ◌≤◌, ◌<◌}
@@ -10,9 +10,9 @@ use native.Mathlib.Nat.{add-sub_cancel_left}
 use native.Mathlib.Omega.{arith}
 use lib.Dec.{leb}
 use lib.ListN.{length, take, drop, get_or, length-take}
-use borrow.Author.Tests.{leb-true}
+use borrow.Author.Tests.{leb-true, le-leb}
 use Rattle.layout.specs.Counts.{column_count}
-use Rattle.fold.proofs.BoolLaws.{and_left, and_right}
+use Rattle.fold.proofs.BoolLaws.{and_left, and_right, and_both}
 use Rattle.cursor.specs.Pieces.{name_most}
 use Rattle.cursor.specs.Names.{name_at_place}
 use Rattle.print.specs.Card.{header_size, line_most, place_right, printable, RowsFit}
@@ -30,6 +30,21 @@ place-was size p h =
     let y = leb-true p.start size (and_right (leb p.size name_most) (leb p.start size) a) in
     let z = leb-true p.size (size - p.start) (and_right (leb p.size name_most && leb p.start size) (leb p.size (size - p.start)) h) in
     record { short = x; inside = omega arith }
+
+pub place-is-right : (size : ℕ) (p : Place) → PlaceWas size p → place_right size p ≡ true
+unfolding place_right
+place-is-right size p w =
+    and_both (and_both (le-leb p.size name_most w.short) (le-leb p.start size (omega (arith, w.inside))))
+    (le-leb p.size (size - p.start) (omega (arith, w.inside)))
+
+-- all of the first n are right, where each is
+pub right-all :
+    (size n : ℕ) (places : List Place) → ((k : ℕ) → k < n → (d : Place) → PlaceWas size (get_or places k d)) → n ≤ length places →
+    list_all (place_right size) (take n places) ≡ true
+right-all size zero places h l = refl
+right-all size (suc n) [] h l = absurd (omega arith)
+right-all size (suc n) (p ∷ ps) h l =
+    and_both (place-is-right size p (h 0 (omega arith) p)) (right-all size n ps (λ k i d. h (suc k) (omega arith) d) (omega arith))
 
 -- each of the first n is right
 pub right-at :

@@ -83,7 +83,7 @@ fn put_rows(
 }
 
 // The card of n rows: names as they stand in the text, by their places, and the columns' numbers for each.
-// Nothing where there is no room for the longest lines, or names or card have no n rows.
+// Nothing where there is no room for the longest lines, or names or card have no n rows, which is why n stands beside them.
 pub fn print_card(text: &[u8], names: &[Place], card: &[u64], n: usize, out: &mut [u8]) -> usize
     ensures { Printed out.old
         (card_printed text.now names.now card.now n (length out.old))

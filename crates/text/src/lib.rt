@@ -23,7 +23,7 @@ pub struct Columns {
     pub after: usize,
 }
 
-// A line read: its numbers, with zeros behind them, and its name's place, if the layout has a name.
+// A line read: its numbers, with zeros behind them, since there is no heap for just as many, and its name's place, if the layout has a name.
 #[derive(Clone, Copy)]
 pub struct LineRead {
     pub numbers: [u64; NUMBERS_MOST],
@@ -40,7 +40,8 @@ pub const TEXT_MOST: usize = 65536;
 // Room to read one into: a byte more, so that a longer one is seen to be longer.
 pub const TEXT_ROOM: usize = TEXT_MOST + 1;
 
-// The lines from a cursor on, a row in each; how many there are, or the first bad one.
+// The lines from a cursor on, a row in each; how many there are, or the first bad one. The buffers stay two parameters: `Taken` says of
+// each what it holds, and every caller lends two of its own.
 pub fn read_rows(
     text: &[u8],
     from: Cursor,
