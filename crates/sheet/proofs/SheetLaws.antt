@@ -5,7 +5,7 @@ use Rattle.std.specs.List.{list_all}
 use mathlib.Core.Path.{◌≡◌, refl, sym, ap, ap₂, ◌∙◌, subst}
 use mathlib.Core.Bool.{true}
 use mathlib.Core.List.{List, [], ◌∷◌, ◌++◌}
-use Prim.Native.Nat.{ℕ, suc, ◌-◌, ◌*◌, ◌/◌, ◌≤◌, ◌<◌}
+use Prim.Native.Nat.{ℕ, ◌-◌, ◌*◌, ◌/◌, ◌≤◌, ◌<◌}
 use native.Mathlib.Omega.{arith}
 use lib.ListN.{length, get_or, take, drop}
 use lib.Seq.{paste, take_all, take_at, length-take-le}
@@ -25,10 +25,10 @@ use Rattle.print.proofs.WriteLaws.{pasted-written, written-long}
 use Rattle.calculate.specs.Ready.{Gave}
 use Rattle.calculate.specs.Whole.{whole}
 use Rattle.calculate.proofs.AnswerLaws.{answered-size}
+use Rattle.print.proofs.PlaceLaws.{right-all}
 use Rattle.sheet.specs.Ready.{RowsReady}
 use Rattle.sheet.specs.Sheet.{names_of, blank_card, Sheet, refused_with, sheet_with, sheet_by, sheet_of, fitted, sheet_most, Filled}
 use Rattle.text.proofs.BlockLaws.{blocks-front}
-use Rattle.text.proofs.StandLaws.{PlaceInside}
 use Rattle.list.proofs.PlaceLaws.{RowsStand, rows-stand}
 
 -- names read from the front of a buffer are those of the front
@@ -37,24 +37,15 @@ unfolding names_at
 names-front s [] rest = refl
 names-front s (p ∷ ps) rest = ap (λ (names : List (List ℕ)). name_at_place s p ∷ names) (names-front s ps rest)
 
-right-place : (size : ℕ) (p : Place) → PlaceInside size p → place_right size p ≡ true
-unfolding place_right
-right-place size p h =
-    let i = h.inside in
-    and_both (and_both (le-leb _ _ h.short) (le-leb p.start size (omega arith))) (le-leb p.size (size - p.start) (omega arith))
-
-right-places :
-    (size : ℕ) (ps : List Place) → ((k : ℕ) → k < length ps → (d : Place) → PlaceInside size (get_or ps k d)) → list_all (place_right size) ps ≡ true
-right-places size [] h = refl
-right-places size (p ∷ ps) h =
-    and_both (right-place size p (h 0 (omega arith) p)) (right-places size ps (λ k l d. h (suc k) (omega arith) d))
-
--- so do the places of all rows that a text was read to have
+-- the places of all rows that a text was read to have are right
 pub all-right : (s : List ℕ) (n : ℕ) → reading s ≡ Ok n → list_all (place_right (length s)) (take n (row_places s)) ≡ true
 all-right s n e =
     let stand = rows-stand s n e in
-    rw (take_all n (row_places s) (omega (arith, stand.places-long)))
-    (right-places (length s) (row_places s) (λ k h d. stand.inside k (omega (arith, stand.places-long)) d))
+    right-all (length s) n (row_places s)
+    (λ k h d.
+    let w = stand.inside k h d in
+    record { short = w.short; inside = w.inside })
+    (omega (arith, stand.places-long))
 
 -- more than 256 rows are COUNT
 pub many-count : (s : List ℕ) (n : ℕ) → reading s ≡ Ok n → 256 < n → (whole (row_numbers s) blank_card).answer ≡ Err refusal.Count
