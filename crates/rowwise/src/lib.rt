@@ -36,12 +36,7 @@ pub fn push(r: Row, k: CardRow, sums: &mut [Fed])
 }
 
 // Works out one row: its settings go to the card, what it asks to the sums. A refusal changes neither.
-fn work_row(
-    tree: FeedingTree,
-    i: usize,
-    card: &mut [u64],
-    sums: &mut [Fed],
-) -> Result<(), Refusal>
+fn work_row(tree: FeedingTree, i: usize, card: &mut [u64], sums: &mut [Fed]) -> Result<(), Refusal>
     requires { WorkReady tree.list.now i card.old sums.old }
     ensures { Stepped (step tree.entry.list.now i card.old sums.old) result card.new sums.new }
 {
