@@ -26,25 +26,32 @@ link-to-row x = refl
 pub link-to-none : link_to None ≡ 0
 link-to-none = refl
 
--- what a byte that is kept says: another than 0 is the number of the next fed row; with 0 there is none before the list's end
-module _ (l : List ℕ) (i j y : ℕ) where
-  some-found : (o : Option ℕ) → next_fed l i j ≡ o → y ≡ link_to o → y ≢ 0 → (found_or (rows l) o < rows l) × (y ≡ found_or (rows l) o + 1)
-  unfolding found_or
-  some-found (Some x) h e some = let r = first-at (feeds l i) (rows l - j) j x h in (omega (arith, r.from, r.below), e)
-  some-found None h e some = absurd (some e)
+-- a byte other than 0 is the number of a row, and 0 is kept for none; of n rows, all that may be kept
+pub link-some :
+    (n : ℕ) (o : Option ℕ) (y : ℕ) → ((x : ℕ) → o ≡ Some x → x < n) → y ≡ link_to o → y ≢ 0 → (found_or n o < n) × (y ≡ found_or n o + 1)
+unfolding found_or
+link-some n (Some x) y below e some = (below x refl, e)
+link-some n None y below e some = absurd (some e)
 
-  none-found : (o : Option ℕ) → y ≡ link_to o → y ≡ 0 → rows l ≤ found_or (rows l) o
-  unfolding found_or
-  none-found (Some x) e none = absurd (omega arith)
-  none-found None e none = omega arith
+pub link-none : (n : ℕ) (o : Option ℕ) (y : ℕ) → y ≡ link_to o → y ≡ 0 → n ≤ found_or n o
+unfolding found_or
+link-none n (Some x) y e none = absurd (omega arith)
+link-none n None y e none = omega arith
 
-  pub link-some : y ≡ link_to (next_fed l i j) → y ≢ 0 → (fed_from l i j < rows l) × (y ≡ fed_from l i j + 1)
+-- so of what is kept for the next fed row
+module _ (l : List ℕ) (i j y : ℕ) (e : y ≡ link_to (next_fed l i j)) where
+  pub next-linked : y ≢ 0 → (fed_from l i j < rows l) × (y ≡ fed_from l i j + 1)
   unfolding fed_from
-  link-some e some = some-found (next_fed l i j) refl e some
+  next-linked some =
+      link-some (rows l) (next_fed l i j) y
+      (λ x h.
+      let r = first-at (feeds l i) (rows l - j) j x h in
+      omega (arith, r.from, r.below))
+      e some
 
-  pub link-none : y ≡ link_to (next_fed l i j) → y ≡ 0 → rows l ≤ fed_from l i j
+  pub no-next-linked : y ≡ 0 → rows l ≤ fed_from l i j
   unfolding fed_from
-  link-none e none = none-found (next_fed l i j) e none
+  no-next-linked none = link-none (rows l) (next_fed l i j) y e none
 
 -- the loop: before the first turn, at a turn, and after the last
 pub linking-none : (l : List ℕ) (links : List Links) → LinkReady l links → Linking l links (rows l)
