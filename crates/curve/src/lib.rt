@@ -6,7 +6,8 @@ ghost use Rattle.curve.specs.Curve.{multiple, stalls, setting_to, setting_from, 
 
 use grid::ceil_div;
 
-// M in thousandths, of a current and a pickup in one unit: rounded down, and 20 above 20. 0 where the pickup is 0.
+// M in thousandths, of a current and a pickup in one unit: rounded down, and 20 above 20. 0 where the pickup is 0, and no Option: the theorems
+// of times are over every M, and at 0 a curve gives none.
 #[tactic(auto, unfolding(crate::specs::Curve::multiple))]
 pub fn multiple(x: u64, y: u64) -> u64
     requires { x ≤ 1000000000000000 }

@@ -32,7 +32,7 @@ pub enum Cutoff {
     NotFitted,
 }
 
-// A row's outcome. The setting is its delay, or the multiplier of its curve.
+// A row's outcome. The setting is its delay, or the multiplier of its curve. The law is the row's number, as `Row` has it.
 #[derive(Clone, Copy)]
 pub struct Outcome {
     pub pickup: Secondary,
@@ -54,7 +54,8 @@ impl From<Stalled> for Reason {
 }
 
 // What the rows that a row feeds ask of its pickup: the sum of their loads, and over them the greatest excess of a pickup over its
-// own load and shortfall of backup. All are primary currents, in fifths of a mA, times volts.
+// own load and shortfall of backup. All are primary currents, in fifths of a mA, times volts. No ghost field bounds them: `asked` and `joined`
+// are of any rows.
 #[derive(Clone, Copy)]
 pub struct Fed {
     pub load: u64,
