@@ -25,7 +25,7 @@ pub fn stalls(law: u64, m: u64) -> bool
     law != 0 && m <= 1000
 }
 
-// The least and the greatest setting of a law: two functions, as callers and `curve-setting` take each by itself.
+// The least and the greatest setting of a law: two functions of one line. One with both numbers as const parameters would say them at each call.
 #[tactic(auto, unfolding(crate::specs::Curve::setting_from))]
 pub fn setting_from(law: u64) -> u64
     ensures { result ≡ setting_from law }

@@ -25,7 +25,7 @@ use layout::{CardRow, FIELDS, Row, row_at};
 use sides::{Primary, Secondary, in_primary, least_keyed};
 use times::time_row;
 
-// The cutoff is fitted at a stated pickup or not fitted [01 §3]. An enum of its own and no Option: document 01 binds this form.
+// The cutoff is fitted at a stated pickup or not fitted [01 §3]: "a row's outcome struct holds an enum: fitted with its pickup, or not".
 #[derive(Clone, Copy)]
 pub enum Cutoff {
     Fitted(Secondary),
