@@ -7,7 +7,7 @@ ghost use Rattle.calculate.specs.Whole.{ending, calculation, worked_as, whole};
 
 use answers::{NUMBERS, Refusal, numbers};
 use blocks::put;
-use feeding::{FeedingTree, UNLINKED, link};
+use feeding::{UNLINKED, link};
 use layout::{CARD, COLUMNS, FIELDS, ROWS};
 use rows::{test_rows, test_size};
 use rowwise::work_rows;
@@ -28,13 +28,9 @@ fn work_tested(list: &[u64], card: &mut [u64]) -> Result<(), Refusal>
     let n = list.len() / FIELDS;
     let mut links = [UNLINKED; ROWS];
     link(list, &mut links);
-    let tree = FeedingTree {
-        list,
-        links: &links,
-    };
     let mut out = [0u64; CARD];
     let mut sums = [NOTHING; ROWS];
-    work_rows(tree, 0, n, &mut out, &mut sums)?;
+    work_rows(list, &links, 0, n, &mut out, &mut sums)?;
     copy_front(card, &out, COLUMNS * n);
     Ok(())
 }

@@ -9,16 +9,16 @@ use Prim.Native.Nat.{ℕ, ◌+◌, ◌-◌, ◌*◌}
 use native.Mathlib.Omega.{arith}
 use lib.ListN.{length, take, drop, drop_of_length-le}
 use Rattle.layout.specs.Counts.{field_count}
-use Rattle.answers.specs.Answer.{given_by, Answer, done}
+use Rattle.answers.specs.Answer.{Answer, done}
 use Rattle.rows.specs.Tests.{size_test, rows_test}
 use Rattle.rows.proofs.TestLaws.{size-passed}
 use Rattle.rowwise.specs.WorkOut.{Worked, on_passed}
 use Rattle.path.specs.Reach.{reach}
 use Rattle.change.specs.Edit.{PutReady, EditFits}
-use Rattle.change.specs.Ready.{ExchangeReady, exchanged, answer_of, count_of, Exchanged, Gave}
+use Rattle.change.specs.Ready.{ExchangeReady, exchanged, answer_of, count_of, Exchanged}
 use Rattle.path.specs.Ready.{PathReady, ReworkReady, far_of, card_of, Reworked, WorkedOut, HowFar}
 use Rattle.change.specs.Edit.{put_list, edit_test}
-use Rattle.change.specs.Replace.{reworked, outcome, Replaced, replaced}
+use Rattle.change.specs.Replace.{reworked, outcome, replaced}
 use Rattle.path.specs.CardTest.{card_test}
 use Rattle.path.proofs.EndLaws.{reworked-done, reworked-refused}
 use Rattle.change.proofs.PutLaws.{put_back}
@@ -122,15 +122,3 @@ module _ (l c : List ℕ) (place : ℕ) (row : List ℕ) where
           (x : HowFar) (l' c' : List ℕ) → Exchanged (exchanged l c (place - 1) row) x l' c' → Exchanged (replaced l c place row) x l' c'
       unfolding replaced on_passed
       answer-exchanged x l' c' z = rw (sym e ∙ f, sym e' ∙ f') z
-
--- the answer in section 4's numbers, and the count
-pub gave :
-    {z : Replaced} {x : HowFar} (y : HowFar) {n : ℕ} {g l c : List ℕ} → x ≡ y → g ≡ given_by (answer_of y) → n ≡ count_of y → Exchanged z x l c →
-    Gave z g n l c
-gave y q e f w =
-    record {
-      numbers = e ∙ ap given_by (ap answer_of (sym q) ∙ w.answer);
-      count = f ∙ ap count_of (sym q) ∙ w.count;
-      list = w.list;
-      card = w.card;
-    }

@@ -5,7 +5,9 @@ mod edit;
 
 ghost use Rattle.path.specs.Ready.{ReworkReady, Reworked};
 ghost use Rattle.path.specs.Reach.{reach};
-ghost use Rattle.change.specs.Ready.{ExchangeReady, exchanged, Exchanged, Gave};
+ghost use Rattle.std.specs.Prelude.{◌≡◌};
+ghost use Rattle.answers.specs.Answer.{given_by};
+ghost use Rattle.change.specs.Ready.{ExchangeReady, exchanged, answer_of, count_of, Exchanged, Gave};
 ghost use Rattle.change.specs.Replace.{reworked, replaced};
 
 use answers::{NUMBERS, Refusal, numbers};
@@ -19,6 +21,24 @@ use rows::{test_rows, test_size};
 pub struct Replacement {
     pub numbers: [u64; NUMBERS],
     pub rows: u64,
+}
+
+impl From<Result<u64, Refusal>> for Replacement {
+    ghost from_gives = { λ far given. (given.numbers ≡ given_by (answer_of far)) × (given.rows ≡ count_of far) };
+
+    #[tactic(auto, unfolding(crate::specs::Ready::answer_of, crate::specs::Ready::count_of))]
+    fn from(far: Result<u64, Refusal>) -> Replacement {
+        match far {
+            Ok(n) => Replacement {
+                numbers: numbers(Ok(())),
+                rows: n,
+            },
+            Err(a) => Replacement {
+                numbers: numbers(Err(a)),
+                rows: 0,
+            },
+        }
+    }
 }
 
 // Row i of the list is new: 4, 5, 9, then 11, 12 or 13 before 14 and 14 before 7 along the rows worked out.
@@ -62,14 +82,5 @@ pub fn replace(list: &mut [u64], card: &mut [u64], place: u64, row: &[u64]) -> R
     ensures { Gave (replaced list.old card.old place row.now) result.numbers result.rows
         list.new card.new }
 {
-    match answer(list, card, place, row) {
-        Ok(n) => Replacement {
-            numbers: numbers(Ok(())),
-            rows: n,
-        },
-        Err(a) => Replacement {
-            numbers: numbers(Err(a)),
-            rows: 0,
-        },
-    }
+    answer(list, card, place, row).into()
 }

@@ -6,7 +6,8 @@ ghost use Rattle.curve.specs.Curve.{multiple, stalls, setting_to, setting_from, 
 
 use grid::ceil_div;
 
-// M in thousandths, of a current and a pickup in one unit: rounded down, and 20 above 20. 0 where the pickup is 0.
+// M in thousandths, of a current and a pickup in one unit: rounded down, and 20 above 20. 0 where the pickup is 0, and no Option: the theorems
+// of times are over every M, and at 0 a curve gives none.
 #[tactic(auto, unfolding(crate::specs::Curve::multiple))]
 pub fn multiple(x: u64, y: u64) -> u64
     requires { x ≤ 1000000000000000 }
@@ -24,7 +25,7 @@ pub fn stalls(law: u64, m: u64) -> bool
     law != 0 && m <= 1000
 }
 
-// The least and the greatest setting of a law: two functions, as callers and `curve-setting` take each by itself.
+// The least and the greatest setting of a law: two functions of one line. One with both numbers as const parameters would say them at each call.
 #[tactic(auto, unfolding(crate::specs::Curve::setting_from))]
 pub fn setting_from(law: u64) -> u64
     ensures { result ≡ setting_from law }

@@ -69,7 +69,7 @@ fn inputs_at(inputs: &[u64], i: usize) -> Inputs
     }
 }
 
-// The line of what is given.
+// The line of what is given. No `From` of a `Given` either: both types are other crates'.
 fn put_given(out: &mut [u8], at: usize, g: Given) -> usize
     requires { at + line_most ≤ length out.old }
     ensures { Wrote out.old at (line_given g) out.new result }

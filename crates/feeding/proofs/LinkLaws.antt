@@ -1,6 +1,7 @@
 -- The pass from the last row down: with row k put first among the rows that its feeder feeds, every row's first fed row is the first from
 -- k on, and what follows a row from k on is the next that is fed as it is. A row that the source feeds changes nothing.
-use mathlib.Core.Path.{◌≡◌, sym, ap, ◌∙◌}
+use Rattle.std.proofs.Common.{Option, Some, None}
+use mathlib.Core.Path.{◌≡◌, refl, sym, ap, ◌∙◌}
 use mathlib.Core.Bool.{true, false}
 use mathlib.Core.Logic.{◌≢◌, ⊎_elim}
 use mathlib.Core.List.{List}
@@ -14,11 +15,45 @@ use borrow.Author.Tests.{eqb-true, eqb-false, eq-eqb, ne_eqb}
 use Rattle.fold.proofs.BoolLaws.{passes-or-fails}
 use Rattle.layout.specs.List.{rows}
 use Rattle.feeding.specs.declared.Links.{Links}
-use Rattle.feeding.specs.Fed.{feeder_of, feeds, next_fed, unlinked, link_at, link_to, LinkReady}
+use Rattle.feeding.specs.Fed.{feeder_of, feeds, next_fed, found_or, fed_from, unlinked, link_at, link_to, Linked, LinkReady}
 use Rattle.feeding.specs.Linking.{Linking, RowReady}
-use Rattle.fold.proofs.FirstLaws.{first-step-true, first-step-false, first-end}
+use Rattle.fold.proofs.FirstLaws.{first-at, first-step-true, first-step-false, first-end}
 
--- the loop: before the first turn, and at a turn
+-- the byte that is kept for a row, and for none
+pub link-to-row : (x : ℕ) → link_to (Some x) ≡ x + 1
+link-to-row x = refl
+
+pub link-to-none : link_to None ≡ 0
+link-to-none = refl
+
+-- a byte other than 0 is the number of a row, and 0 is kept for none; of n rows, all that may be kept
+pub link-some :
+    (n : ℕ) (o : Option ℕ) (y : ℕ) → ((x : ℕ) → o ≡ Some x → x < n) → y ≡ link_to o → y ≢ 0 → (found_or n o < n) × (y ≡ found_or n o + 1)
+unfolding found_or
+link-some n (Some x) y below e some = (below x refl, e)
+link-some n None y below e some = absurd (some e)
+
+pub link-none : (n : ℕ) (o : Option ℕ) (y : ℕ) → y ≡ link_to o → y ≡ 0 → n ≤ found_or n o
+unfolding found_or
+link-none n (Some x) y e none = absurd (omega arith)
+link-none n None y e none = omega arith
+
+-- so of what is kept for the next fed row
+module _ (l : List ℕ) (i j y : ℕ) (e : y ≡ link_to (next_fed l i j)) where
+  pub next-linked : y ≢ 0 → (fed_from l i j < rows l) × (y ≡ fed_from l i j + 1)
+  unfolding fed_from
+  next-linked some =
+      link-some (rows l) (next_fed l i j) y
+      (λ x h.
+      let r = first-at (feeds l i) (rows l - j) j x h in
+      omega (arith, r.from, r.below))
+      e some
+
+  pub no-next-linked : y ≡ 0 → rows l ≤ fed_from l i j
+  unfolding fed_from
+  no-next-linked none = link-none (rows l) (next_fed l i j) y e none
+
+-- the loop: before the first turn, at a turn, and after the last
 pub linking-none : (l : List ℕ) (links : List Links) → LinkReady l links → Linking l links (rows l)
 linking-none l links a =
     record {
@@ -34,6 +69,11 @@ linking-ready l links₀ links k a above h =
     let e : k - 1 + 1 ≡ k = omega arith in
     let is_row : k - 1 < rows l = omega (arith, above.within) in
     record { rows-to = a.rows-to; is_row = is_row; feeder = a.feeders (k - 1) is_row; above = rw e above }
+
+pub linking-all : (l : List ℕ) (links : List Links) (k : ℕ) → Linking l links k → k ≡ 0 → Linked l links
+linking-all l links k h e =
+    let all : Linking l links 0 = rw e at h in
+    record { room = all.links-room; firsts = all.firsts; nexts = λ i j b. all.nexts i j (omega arith) b }
 
 module _ (l : List ℕ) (links : List Links) (k : ℕ) (h : RowReady l links k) where
   -- a row's feeder has its place among the links; then the row is not the last, and a byte holds its number

@@ -9,8 +9,8 @@ ghost use Rattle.feeding.specs.Linking.{Linking, RowReady};
 
 use layout::{AT_FEEDER, FIELDS, field_at};
 
-// The number of the first row that a row feeds, and of the next row that is fed as it is; 0 where there is none. Bytes, as memory is fixed and
-// every time of a row reads them: two Options of an index would take 32 of them.
+// The number of the first row that a row feeds, and of the next row that is fed as it is; 0 where there is none. Bytes and no Options: memory
+// is fixed, a walk reads them for every row, and `link-some` and `link-none` are of such numbers.
 #[derive(Clone, Copy)]
 pub struct Links {
     pub first: u8,

@@ -56,6 +56,16 @@ module _ (a b : CardRow) where
         (and_both (eq-eqb a.law b.law (λ t. (e t).law)) (eq-eqb a.multiplier b.multiplier (λ t. (e t).multiplier))))),
   )
 
+  -- with all else equal, the multipliers decide
+  pub same-but-multiplier :
+      a.pickup.0 ≡ b.pickup.0 → a.delay ≡ b.delay → a.cutoff.0 ≡ b.cutoff.0 → a.law ≡ b.law →
+      multipliers ≡ same_card_row a b
+  same-but-multiplier p d q w =
+      sym
+      (λ t.
+      eq-eqb a.pickup.0 b.pickup.0 p t &&
+      (eq-eqb a.delay b.delay d t && (eq-eqb a.cutoff.0 b.cutoff.0 q t && (eq-eqb a.law b.law w t && multipliers))))
+
 pub column-of : (c : List ℕ) (i k : ℕ) → k < column_count → column c i k ≡ get_or (columns_of (card_row_at c i)) k 0
 column-of c i zero h = refl
 column-of c i (suc zero) h = refl

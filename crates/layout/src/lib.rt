@@ -118,7 +118,8 @@ pub fn in_bounds(table: &[u64], k: usize, x: u64) -> bool
 
 // What the conditions read of a row: fields 2 to 22, in the list's order [01 §2], [02 §1, §3]. Low, high and step are as
 // they are keyed: secondary mA where the row has a ratio, primary mA where not. Other currents are primary. Kind, device, backed and law are
-// the list's numbers and no enums: `row_at`, the conditions and the theorems are over any list, in range or not.
+// the list's numbers and no enums, and no ghost field says `Bounded`: `row_at`, the conditions and the theorems are over any list, in range
+// or not.
 #[derive(Clone, Copy)]
 pub struct Row {
     pub feeder: u64,
@@ -151,6 +152,7 @@ pub fn field_at(list: &[u64], i: usize, k: usize) -> u64
     list[i * FIELDS + k]
 }
 
+// Here and of a card row: no From, as a row is read from a list at an index.
 pub fn row_at(list: &[u64], i: usize) -> Row
     requires { (i * field_count + field_count ≤ length list.now) × Bounded (row_at list.now i) }
     ensures { result ≡ row_at list.now i }

@@ -133,7 +133,7 @@ fn climb(
         card.old result card.new }
 {
     let old = card_row_at(card, i);
-    work_rows(tree, i, i + 1, card, sums)?;
+    work_rows(tree.list, tree.links, i, i + 1, card, sums)?;
     if stays(card, i, old, feeding) {
         return Ok(1); // the stop counts
     }
@@ -150,8 +150,8 @@ fn climb(
     }
 }
 
-// How many rows were worked out, or the refusal: row by row 11, 12 or 13, then 14, then 7 along the path of row i, the replaced one, which never stops the climb. The fed rows are
-// linked once.
+// How many rows were worked out, or the refusal: row by row 11, 12 or 13, then 14, then 7 along the path of row i, the replaced one, which
+// never stops the climb. The fed rows are linked once.
 pub fn work_path(list: &[u64], i: usize, card: &mut [u64]) -> Result<u64, Refusal>
     requires { PathReady list.now i card.old }
     ensures { WorkedOut list.now (reach list.now i card.old) card.old result card.new }

@@ -1,6 +1,5 @@
 -- While rows are worked out, the sums hold for each row that still matters what its fed rows that are done ask of it. So a row
 -- whose fed rows are all done is settled by the sums as section 3 says, and its step keeps the sums true.
-use lib.Seq.{get_or-set_same, get_or-set_other}
 use lib.ListN.{set}
 use Rattle.std.proofs.Common.{Ok}
 use mathlib.Core.Path.{◌≡◌, refl, sym, ap, ◌∙◌, subst}
@@ -30,10 +29,10 @@ use Rattle.settle.proofs.FedLaws.{settled-by}
 use Rattle.settle.proofs.OutcomeLaws.{set-bounded}
 use Rattle.settle.proofs.PickupLaws.{load-bounded, found-fits}
 use Rattle.rowwise.specs.Ready.{HasFeeder, WorkReady}
-use Rattle.rowwise.specs.Sums.{nothing, fed_at, joined, pushed, settled_at}
+use Rattle.rowwise.specs.Sums.{fed_at, joined, pushed, settled_at}
 use Rattle.rowwise.specs.Working.{Working, gathered_by}
 use Rattle.rowwise.proofs.StepLaws.{pushed-source, pushed-feeder, pushed-length}
-use Rattle.rowwise.proofs.SumsLaws.{same-fed}
+use Rattle.rowwise.proofs.SumsLaws.{same-fed, put_fed-own, put_fed-other}
 
 -- a number that counts only sometimes is at most what it is when it counts
 counted-to : (b : Bool) (x m : ℕ) → (b ≡ true → x ≤ m) → cond b x 0 ≤ m
@@ -187,12 +186,12 @@ module _ (l : List ℕ) (done matters : ℕ → Bool) (c : List ℕ) (s : List F
       at-feeder n0 g =
           let e : r.feeder - 1 ≡ x = omega (arith, eqb-true r.feeder (x + 1) g) in
           rw e
-          (get_or-set_same s x (joined (fed_at s x) asks) nothing (omega (arith, w.sums-room)) ∙ ap (λ (f : Fed). joined f asks) is-before ∙ gather-fed x g)
+          (put_fed-own s x (joined (fed_at s x) asks) (omega (arith, w.sums-room)) ∙ ap (λ (f : Fed). joined f asks) is-before ∙ gather-fed x g)
 
       elsewhere : (r.feeder ≡ 0 → ⊥) → fed (view_of l) x i ≡ false → fed_at (set s (r.feeder - 1) for-feeder) x ≡ after x
       unfolding r
       elsewhere n0 g =
-          get_or-set_other s (r.feeder - 1) x for-feeder nothing (λ e. eqb-false r.feeder (x + 1) g (omega arith)) ∙ is-before ∙ gather-unfed x g
+          put_fed-other s (r.feeder - 1) for-feeder x (λ e. eqb-false r.feeder (x + 1) g (omega arith)) ∙ is-before ∙ gather-unfed x g
 
       summed-next : fed_at (pushed r k s) x ≡ after x
       unfolding r asks for-feeder

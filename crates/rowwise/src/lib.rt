@@ -1,13 +1,14 @@
 // Rows worked out on a lent card, one after the other. What a row's fed rows ask of its pickup is kept in `sums`, and each row that is worked out
-// adds its own for the row that feeds it. For its time the row goes through its fed rows once, by `links`.
+// adds its own for the row that feeds it. For its time the row goes through its fed rows once, by the list's links.
 #![tactic(auto)]
 
 ghost use Rattle.std.specs.Prelude.{◌≡◌, ◌+◌, ◌-◌, ◌<◌};
+ghost use Rattle.feeding.specs.Fed.{Linked};
 ghost use Rattle.rowwise.specs.Ready.{PushReady, WorkReady, RowsReady, Stepped};
 ghost use Rattle.rowwise.specs.Sums.{joined, pushed, step, steps};
 
 use answers::Refusal;
-use feeding::FeedingTree;
+use feeding::{FeedingTree, Links};
 use layout::{CardRow, Row, put_card_row, row_at};
 use settle::{Fed, asks, settle};
 
@@ -35,12 +36,7 @@ pub fn push(r: Row, k: CardRow, sums: &mut [Fed])
 }
 
 // Works out one row: its settings go to the card, what it asks to the sums. A refusal changes neither.
-fn work_row(
-    tree: FeedingTree,
-    i: usize,
-    card: &mut [u64],
-    sums: &mut [Fed],
-) -> Result<(), Refusal>
+fn work_row(tree: FeedingTree, i: usize, card: &mut [u64], sums: &mut [Fed]) -> Result<(), Refusal>
     requires { WorkReady tree.list.now i card.old sums.old }
     ensures { Stepped (step tree.entry.list.now i card.old sums.old) result card.new sums.new }
 {
@@ -57,19 +53,21 @@ fn work_row(
 }
 
 // Works out the rows from one on, and below another, up to the first that is refused. A climb, too, calls it for each of its rows: with
-// one caller, what a row takes is compiled into this loop.
+// one caller, what a row takes is compiled into this loop. List and links, and no tree: without a row it asks nothing of the links.
 pub fn work_rows(
-    tree: FeedingTree,
+    list: &[u64],
+    links: &[Links],
     from: usize,
     to: usize,
     card: &mut [u64],
     sums: &mut [Fed],
 ) -> Result<(), Refusal>
-    requires { RowsReady tree.list.now from (to - from) card.old sums.old }
-    ensures { Stepped (steps tree.entry.list.now from (to - from) card.old sums.old) result card.new sums.new }
+    requires ready { RowsReady list.now from (to - from) card.old sums.old }
+    requires linked { from < to → Linked list.now links.now }
+    ensures { Stepped (steps list.now from (to - from) card.old sums.old) result card.new sums.new }
 {
     for i in from..to {
-        work_row(tree, i, card, sums)?;
+        work_row(FeedingTree { list, links }, i, card, sums)?;
     }
     Ok(())
 }

@@ -155,3 +155,13 @@ module _ (v : View) (k : Settings) (i : ℕ) (r : Row) (I : Primary) (m : ℕ) (
           ok_or o Delay ≡ timed_by (stalled v k i r I) (least_setting r (meets_time v k i r I))
       unfolding timed_by
       row-timed o e = rw (runs-all, ← setting-from, e)
+
+      pub row-none :
+          least_setting r (λ x. within_delays r (time_of r.law m x) && leb b x) ≡ None →
+          Err Delay ≡ timed_by (stalled v k i r I) (least_setting r (meets_time v k i r I))
+      row-none g = row-timed None (sym g)
+
+      pub row-set :
+          (x : ℕ) → least_setting r (λ x. within_delays r (time_of r.law m x) && leb b x) ≡ Some x →
+          Ok x ≡ timed_by (stalled v k i r I) (least_setting r (meets_time v k i r I))
+      row-set x g = row-timed (Some x) (sym g)

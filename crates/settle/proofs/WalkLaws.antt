@@ -54,10 +54,15 @@ module _ (l c : List ℕ) (i : ℕ) (r : Row) (I : Primary) where
     pub left : first_stalling v k i r I ≡ first (stalls_by v k i r I) gone (rows l - gone)
     pub asked : (x : ℕ) → leb from x ≡ every gone (graded x)
 
+  -- from row a on the next is the next fed row
+  next-walking :
+      (from a : ℕ) (next : Option ℕ) → a ≤ rows l → first_stalling v k i r I ≡ first (stalls_by v k i r I) a (rows l - a) →
+      ((x : ℕ) → leb from x ≡ every a (graded x)) → next ≡ next_fed l i a → Walking from next
+  next-walking from a next h left asked link = record { gone = a; within = h; link = link; left = left; asked = asked }
+
   pub walk_start : (next : Option ℕ) → next ≡ next_fed l i 0 → Walking 0 next
   unfolding first_stalling every
-  walk_start next e =
-      record { gone = 0; within = omega arith; link = e; left = rw sub-zero; asked = λ x. le-leb 0 x (omega arith) }
+  walk_start next e = next-walking 0 0 next (omega arith) (rw sub-zero) (λ x. le-leb 0 x (omega arith)) e
 
   -- what is left, and what is asked, at the next fed row or at the end
   module _ (from : ℕ) (next : Option ℕ) (w : Walking from next) (at : ℕ) (e : fed_from l i w.gone ≡ at) where

@@ -25,14 +25,14 @@ use layout::{CardRow, FIELDS, Row, row_at};
 use sides::{Primary, Secondary, in_primary, least_keyed};
 use times::time_row;
 
-// The cutoff is fitted at a stated pickup or not fitted [01 §3]. An enum of its own and no Option: document 01 binds this form.
+// The cutoff is fitted at a stated pickup or not fitted [01 §3]: "a row's outcome struct holds an enum: fitted with its pickup, or not".
 #[derive(Clone, Copy)]
 pub enum Cutoff {
     Fitted(Secondary),
     NotFitted,
 }
 
-// A row's outcome. The setting is its delay, or the multiplier of its curve.
+// A row's outcome. The setting is its delay, or the multiplier of its curve. The law is the row's number, as `Row` has it.
 #[derive(Clone, Copy)]
 pub struct Outcome {
     pub pickup: Secondary,
@@ -54,7 +54,8 @@ impl From<Stalled> for Reason {
 }
 
 // What the rows that a row feeds ask of its pickup: the sum of their loads, and over them the greatest excess of a pickup over its
-// own load and shortfall of backup. All are primary currents, in fifths of a mA, times volts.
+// own load and shortfall of backup. All are primary currents, in fifths of a mA, times volts. No ghost field bounds them: `asked` and `joined`
+// are of any rows.
 #[derive(Clone, Copy)]
 pub struct Fed {
     pub load: u64,

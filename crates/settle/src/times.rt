@@ -123,6 +123,7 @@ fn walk(tree: FeedingTree, card: &[u64], i: usize, r: Row, pickup: Primary) -> R
 {
     let mut from = 0u64;
     let mut next = tree.first_fed(i);
+    // each turn goes on by a link
     while let Some(j) = next {
         let b = ask(tree.list, card, i, r, pickup, j)?;
         from = from.max(b);

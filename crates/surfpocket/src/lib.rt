@@ -105,7 +105,7 @@ pub extern "C" fn surfpocket_replace(
     }
 }
 
-// A single in the unit of that number, if there is one.
+// A single in the unit of that number, if there is one. No TryFrom: C hands over two arguments.
 fn in_unit(unit: u64, x: f32) -> Option<Quantity>
     ensures { result ≡ unit_of unit x }
 {

@@ -30,7 +30,7 @@ pub struct LineRead {
     pub name: Option<Place>,
 }
 
-// The first bad line of a text, 0 where the text is too long.
+// The first bad line of a text, 0 where the text is too long: TEXT is given with it (`too-long-exactly`).
 #[derive(Clone, Copy)]
 pub struct BadLine(pub u64);
 

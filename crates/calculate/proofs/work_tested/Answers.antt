@@ -24,8 +24,8 @@ unworked s z room = own-unworked s.args.list.now s.args.card.now s.requires z _ 
 pub link-requires : goal.link-requires
 link-requires c = links-ready c.args.list.now c.args.card.now c.requires _ (lit≤ tt) (clear_reads unlinked rows_most)
 
-pub work_rows-requires : goal.work_rows-requires
-work_rows-requires c = all-rows-ready _ _ _ (unworked (goal.at.work_rows-requires c).Start _ (lit≤ tt))
+pub work_rows-requires-clause-ready : goal.work_rows-requires-clause-ready
+work_rows-requires-clause-ready c = all-rows-ready _ _ _ (unworked (goal.at.work_rows-requires-clause-ready c).Start _ (lit≤ tt))
 
 pub returns-in_err-work_rows : goal.returns-in_err-work_rows
 returns-in_err-work_rows c = let e = all-worked _ _ _ (unworked (goal.at.returns-in_err-work_rows c).Start _ (lit≤ tt)) _ _ _ c.work_rows.ensures in

@@ -11,8 +11,8 @@ use Rattle.path.proofs.+climb.Goals as goal
 pub card_row_at-old-requires : goal.card_row_at-old-requires
 card_row_at-old-requires t c = (climb-works _ _ _ _ c.requires).in-card
 
-pub work_rows-requires : goal.work_rows-requires
-work_rows-requires t c = climb-ready _ _ _ _ c.requires
+pub work_rows-requires-clause-ready : goal.work_rows-requires-clause-ready
+work_rows-requires-clause-ready t c = climb-ready _ _ _ _ c.requires
 
 pub returns-in_err-work_rows : goal.returns-in_err-work_rows
 returns-in_err-work_rows t c = let p = err_from_is_err_and c.from_residual.result c.from_residual.ensures.1 in
