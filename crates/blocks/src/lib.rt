@@ -8,5 +8,7 @@ pub fn put<T: Copy>(out: &mut [T], at: usize, block: &[T])
     requires { at + length block.now ≤ length out.old }
     ensures { out.new ≡ paste out.old at block.now (length block.now) }
 {
-    out[at..at + block.len()].copy_from_slice(block);
+    for j in 0..block.len() {
+        out[at + j] = block[j];
+    }
 }
