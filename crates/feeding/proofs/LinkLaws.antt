@@ -11,11 +11,11 @@ use native.Mathlib.Omega.{arith}
 use lib.Dec.{eqb}
 use lib.ListN.{length, set, length-set}
 use lib.Seq.{get_or-set_same, get_or-set_other}
-use borrow.Author.Tests.{eqb-true, eqb-false, eq-eqb, ne_eqb}
-use Rattle.fold.proofs.BoolLaws.{passes-or-fails}
+use borrow.Author.Tests.{eqb-true, eqb-false, eq-eqb, ne_eqb, lt-ltb, le-ltb}
+use Rattle.fold.proofs.BoolLaws.{passes-or-fails, lt-or-le}
 use Rattle.layout.specs.List.{rows}
 use Rattle.feeding.specs.declared.Links.{Links}
-use Rattle.feeding.specs.Fed.{feeder_of, feeds, next_fed, found_or, fed_from, unlinked, link_at, link_to, Linked, LinkReady}
+use Rattle.feeding.specs.Fed.{feeder_of, feeds, next_fed, found_or, fed_from, unlinked, link_at, row_among, link_to, Linked, LinkReady}
 use Rattle.feeding.specs.Linking.{Linking, RowReady}
 use Rattle.fold.proofs.FirstLaws.{first-at, first-step-true, first-step-false, first-end}
 
@@ -26,32 +26,55 @@ link-to-row x = refl
 pub link-to-none : link_to None ≡ 0
 link-to-none = refl
 
--- a byte other than 0 is the number of a row, and 0 is kept for none; of n rows, all that may be kept
-pub link-some :
+-- what is kept for row x of n rows, or for none where it is none of them: a byte other than 0 is the number of that row, and 0 says that it is none
+pub link-some : (n x y : ℕ) → y ≡ link_to (row_among n x) → y ≢ 0 → (x < n) × (y ≡ x + 1)
+unfolding row_among
+link-some n x y e some =
+    ⊎_elim (λ (h : x < n). (h, e ∙ simp (lt-ltb x n h))) (λ (h : n ≤ x). absurd (some (e ∙ simp (le-ltb x n h)))) (lt-or-le x n)
+
+pub link-none : (n x y : ℕ) → y ≡ link_to (row_among n x) → y ≡ 0 → n ≤ x
+unfolding row_among
+link-none n x y e none =
+    ⊎_elim
+    (λ (h : x < n).
+    let k : link_to (row_among n x) ≡ x + 1 = simp (lt-ltb x n h) in
+    absurd (omega arith))
+    (λ (h : n ≤ x). h)
+    (lt-or-le x n)
+
+-- of n rows, all that may be kept
+pub link-found :
     (n : ℕ) (o : Option ℕ) (y : ℕ) → ((x : ℕ) → o ≡ Some x → x < n) → y ≡ link_to o → y ≢ 0 → (found_or n o < n) × (y ≡ found_or n o + 1)
 unfolding found_or
-link-some n (Some x) y below e some = (below x refl, e)
-link-some n None y below e some = absurd (some e)
+link-found n (Some x) y below e some = (below x refl, e)
+link-found n None y below e some = absurd (some e)
 
-pub link-none : (n : ℕ) (o : Option ℕ) (y : ℕ) → y ≡ link_to o → y ≡ 0 → n ≤ found_or n o
+pub link-not-found : (n : ℕ) (o : Option ℕ) (y : ℕ) → y ≡ link_to o → y ≡ 0 → n ≤ found_or n o
 unfolding found_or
-link-none n (Some x) y e none = absurd (omega arith)
-link-none n None y e none = omega arith
+link-not-found n (Some x) y e none = absurd (omega arith)
+link-not-found n None y e none = omega arith
+
+-- what was found among n rows is a row of them, or none
+found-row : (n : ℕ) (o : Option ℕ) → ((x : ℕ) → o ≡ Some x → x < n) → o ≡ row_among n (found_or n o)
+unfolding row_among found_or
+found-row n (Some x) below = simp (lt-ltb x n (below x refl))
+found-row n None below = simp (le-ltb n n (omega arith))
+
+next-row : (l : List ℕ) (i j : ℕ) → next_fed l i j ≡ row_among (rows l) (fed_from l i j)
+unfolding fed_from
+next-row l i j =
+    found-row (rows l) (next_fed l i j)
+    (λ x h.
+    let r = first-at (feeds l i) (rows l - j) j x h in
+    omega (arith, r.from, r.below))
 
 -- so of what is kept for the next fed row
 module _ (l : List ℕ) (i j y : ℕ) (e : y ≡ link_to (next_fed l i j)) where
   pub next-linked : y ≢ 0 → (fed_from l i j < rows l) × (y ≡ fed_from l i j + 1)
-  unfolding fed_from
-  next-linked some =
-      link-some (rows l) (next_fed l i j) y
-      (λ x h.
-      let r = first-at (feeds l i) (rows l - j) j x h in
-      omega (arith, r.from, r.below))
-      e some
+  next-linked some = link-some (rows l) (fed_from l i j) y (e ∙ ap link_to (next-row l i j)) some
 
   pub no-next-linked : y ≡ 0 → rows l ≤ fed_from l i j
-  unfolding fed_from
-  no-next-linked none = link-none (rows l) (next_fed l i j) y e none
+  no-next-linked none = link-none (rows l) (fed_from l i j) y (e ∙ ap link_to (next-row l i j)) none
 
 -- the loop: before the first turn, at a turn, and after the last
 pub linking-none : (l : List ℕ) (links : List Links) → LinkReady l links → Linking l links (rows l)

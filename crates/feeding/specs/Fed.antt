@@ -1,7 +1,7 @@
 -- [01 §2] The rows that a row feeds, ascending: "fed rows are those it feeds directly". They are found once for the whole list and kept as
 -- two numbers a row, so that going through the fed rows of every row takes no more steps than the list has rows. Rows are counted
 -- from 0, but the numbers kept are those of the list, from 1. Definitions only.
-use Rattle.std.specs.Prelude.{◌≡◌, Bool, true, ◌≢◌, List, ℕ, ◌+◌, ◌-◌, ◌≤◌, ◌<◌, eqb, length, slice_index_or, Option, Some, None}
+use Rattle.std.specs.Prelude.{◌≡◌, Bool, true, cond, ◌≢◌, List, ℕ, ◌+◌, ◌-◌, ◌≤◌, ◌<◌, eqb, ltb, length, slice_index_or, Option, Some, None}
 use Rattle.fold.specs.First.{first}
 use Rattle.layout.specs.Counts.{rows_most}
 use Rattle.layout.specs.Fields.{at_feeder}
@@ -44,6 +44,10 @@ unlinked = record { first = 0; next = 0 }
 -- what is kept for row i
 abbrev pub link_at : List Links → ℕ → Links
 link_at links i = slice_index_or links i unlinked
+
+-- row x of n rows, if it is one of them
+unfoldable pub row_among : ℕ → ℕ → Option ℕ
+row_among n x = cond (ltb x n) (Some x) None
 
 -- the number that is kept for a row, from 1; 0 for none
 abbrev pub link_to : Option ℕ → ℕ

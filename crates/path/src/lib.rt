@@ -122,14 +122,14 @@ fn stays(card: &[u64], i: usize, old: CardRow, feeding: bool) -> bool
 // Works out row i and then, unless it is a feeding row that comes out as it was, the path of the row that feeds it. A refusal above
 // puts the row's old numbers back.
 fn climb(
-    tree: FeedingTree,
+    tree: &FeedingTree,
     i: usize,
     card: &mut [u64],
     sums: &mut [Fed],
     feeding: bool,
 ) -> Result<u64, Refusal>
-    requires { ClimbReady tree.list.now i card.old sums.old }
-    ensures { WorkedOut tree.entry.list.now (reach_from tree.entry.list.now feeding (path_of tree.entry.list.now i) card.old)
+    requires { ClimbReady tree.now.list.now i card.old sums.old }
+    ensures { WorkedOut tree.now.list.now (reach_from tree.now.list.now feeding (path_of tree.now.list.now i) card.old)
         card.old result card.new }
 {
     let old = card_row_at(card, i);
@@ -164,5 +164,5 @@ pub fn work_path(list: &[u64], i: usize, card: &mut [u64]) -> Result<u64, Refusa
     };
     let mut sums = [NOTHING; ROWS];
     push_rest(list, i, card, &mut sums);
-    climb(tree, i, card, &mut sums, false)
+    climb(&tree, i, card, &mut sums, false)
 }

@@ -36,7 +36,7 @@ returns-then-feeder-eq0 t c = let p = climb-passes _ _ _ _ c.requires _ _ _ c.wo
 pub climb-requires : goal.climb-requires
 climb-requires t c =
     let p = climb-passes _ _ _ _ c.requires _ _ _ c.work_rows.ensures c.in_ok-work_rows.was in (
-      subst (λ (n : ℕ). rows c.args.tree.list.now - (c.field_at-feeder.result - 1) < n) c.decreases
+      subst (λ (n : ℕ). rows c.args.tree.now.list.now - (c.field_at-feeder.result - 1) < n) c.decreases
           (climb-less p c.args.feeding _ c.card_row_at-old.ensures _ c.stays.ensures c.if-stays.false _
           c.field_at-feeder.ensures c.if-feeder-eq0.false),
       climb-on p c.args.feeding _ c.card_row_at-old.ensures _ c.stays.ensures c.if-stays.false _

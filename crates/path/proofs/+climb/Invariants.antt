@@ -4,4 +4,4 @@ use Rattle.layout.specs.List.{rows}
 use Rattle.path.proofs.+climb.Given as goal
 
 abbrev pub decreases-climb : goal.decreases-climb
-decreases-climb l = rows l.tree.list.now - l.i
+decreases-climb l = rows l.tree.now.list.now - l.i
